@@ -1,0 +1,46 @@
+-- Lists that the definitions need: made from a rule, joined, counted.
+-- Assumes nothing.
+use Prim.Native.Nat.{ℕ, zero, suc, _+_, _%_}
+use mathlib.Core.Bool.{Bool, true, false, cond, _&&_}
+use mathlib.Core.List.{List, [], _∷_, _++_}
+use lib.Dec.{eqb, ltb}
+
+-- The list f 0, f 1, .., f (n-1).
+unfoldable pub tabulate : {A : Type 0} → ℕ → (ℕ → A) → List A
+tabulate zero f = []
+tabulate (suc n) f = f zero ∷ tabulate n (λ k. f (suc k))
+
+-- The lists f 0, f 1, .., f (n-1), one after the other.
+unfoldable pub joined : {A : Type 0} → ℕ → (ℕ → List A) → List A
+joined zero f = []
+joined (suc n) f = joined n f ++ f n
+
+-- The lists of a list, one after the other.
+unfoldable pub flat : {A : Type 0} → List (List A) → List A
+flat [] = []
+flat (a ∷ rest) = a ++ flat rest
+
+-- 1 where two numbers are the same, else 0.
+unfoldable pub same : ℕ → ℕ → ℕ
+same i j = cond (eqb i j) 1 0
+
+-- How often j stands in a list.
+unfoldable pub count : ℕ → List ℕ → ℕ
+count j [] = 0
+count j (i ∷ S) = same i j + count j S
+
+-- How many bits of a list are 1. A bit is 0 or not 0.
+unfoldable pub ones : List ℕ → ℕ
+ones [] = 0
+ones (zero ∷ r) = ones r
+ones (suc b ∷ r) = suc (ones r)
+
+-- How many numbers of a list are odd.
+unfoldable pub odds : List ℕ → ℕ
+odds [] = 0
+odds (a ∷ u) = a % 2 + odds u
+
+-- Every number of a list is below a bound.
+unfoldable pub allBelow : ℕ → List ℕ → Bool
+allBelow bound [] = true
+allBelow bound (n ∷ ns) = ltb n bound && allBelow bound ns

@@ -1,0 +1,44 @@
+-- A plan: d, l, a start order, the bits and an answer row, as they are lent or stored, and what a plan says.
+-- Assumes nothing.
+use Prim.Native.Nat.{ℕ, pred, _+_, _*_}
+use mathlib.Core.List.{List, map}
+use lib.IntN.{ℤ}
+use Rattle.ladder.specs.Lists.{tabulate}
+use Rattle.ladder.specs.Numbers.{bitAt}
+use Rattle.ladder.specs.Matrix.{Row, Matrix, row, matrixAfter, orderAfter, signsAfter}
+
+-- The start order's columns and the answer row are counted from 1 here, as the rules and the bytes have them.
+pub record Plan : Type 0 where
+  pub d : ℕ
+  pub l : ℕ
+  pub start : List ℕ
+  pub bits : List ℕ
+  pub answer : ℕ
+
+-- The start order, columns from 0.
+unfoldable pub startOrder : Plan → List ℕ
+startOrder p = map pred (p .start)
+
+-- The bits of step s (the rules' step s+1): bit k (the rules' bit k+1) is bit number s*d + k. Filling bits are never asked for.
+unfoldable pub stepBits : Plan → ℕ → List ℕ
+stepBits p s = tabulate (p .d) (λ k. bitAt (p .bits) (s * p .d + k))
+
+-- The matrix, the order and the signs after n steps; after s steps is before step s (the rules' step s+1).
+unfoldable pub matrixIn : Plan → ℕ → Matrix
+matrixIn p n = matrixAfter (p .d) (startOrder p) (stepBits p) n
+
+unfoldable pub orderIn : Plan → ℕ → List ℕ
+orderIn p n = orderAfter (startOrder p) (stepBits p) n
+
+unfoldable pub signsIn : Plan → ℕ → List ℤ
+signsIn p n = signsAfter (p .d) (startOrder p) (stepBits p) n
+
+unfoldable pub lastMatrix : Plan → Matrix
+lastMatrix p = matrixIn p (p .l)
+
+unfoldable pub endOrder : Plan → List ℕ
+endOrder p = orderIn p (p .l)
+
+-- The answer row of the last matrix: what a plan decodes to.
+unfoldable pub answerRow : Plan → Row
+answerRow p = row (lastMatrix p) (pred (p .answer))

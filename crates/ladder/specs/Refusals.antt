@@ -1,0 +1,178 @@
+-- "Operations and how they refuse": one definition for each number of the table, then each operation's refusal, the first
+-- that applies in the order given for that operation. 0 is OK.
+-- Assumes nothing.
+use Prim.Native.Nat.{ℕ, zero, suc, _+_, _^_}
+use mathlib.Core.Bool.{Bool, true, false, cond, _&&_}
+use mathlib.Core.List.{List, [], _∷_}
+use lib.Dec.{eqb, leb, ltb}
+use lib.IntN.{ℤ, pos, negsuc}
+use lib.ListN.{length, take, drop}
+use Rattle.ladder.specs.Lists.{count, allBelow}
+use Rattle.ladder.specs.Numbers.{numbersOf, scalarWords, scalarsLength, valuesLength, startLength, elementsLength, registersLength, bitsLength, traceLength}
+use Rattle.ladder.specs.Plan.{Plan}
+use Rattle.ladder.specs.Walk.{Walk}
+use Rattle.ladder.specs.PlanFile.{mark, trailerSize, bodyLength, fileLength, dIn, lIn, answerIn, distanceIn, markIn, planIn}
+
+-- ---- tests and their order
+
+-- The first refusal that applies.
+infixr 5 _then_
+unfoldable pub _then_ : ℕ → ℕ → ℕ
+zero then n = n
+suc m then n = suc m
+
+-- Refusal n unless a test holds.
+unfoldable pub unless : Bool → ℕ → ℕ
+unless test n = cond test 0 n
+
+unfoldable pub within : ℕ → ℕ → ℕ → Bool
+within lo hi n = leb lo n && leb n hi
+
+-- ---- the table, a definition for each number
+
+-- 1 DIM: d not 1..8.
+unfoldable pub dim : ℕ → ℕ
+dim d = unless (within 1 8 d) 1
+
+-- 2 LENGTH: l not 1..576.
+unfoldable pub len : ℕ → ℕ
+len l = unless (within 1 576 l) 2
+
+-- 3 SHAPE: a lent buffer hasn't exactly its length ..
+unfoldable pub shape : List ℕ → ℕ → ℕ
+shape buffer n = unless (eqb (length buffer) n) 3
+
+-- .. or a step's bit number is 2^d or more.
+unfoldable pub stepShape : ℕ → ℕ → ℕ
+stepShape d n = unless (ltb n (2 ^ d)) 3
+
+-- 4 SCALAR: a scalar is 2^l or more.
+unfoldable pub scalar : ℕ → List ℕ → ℕ
+scalar l ks = unless (allBelow (2 ^ l) ks) 4
+
+-- An arrangement of 1..d: d numbers, each from 1 to d, and each of 1..d once.
+unfoldable pub allWithin : ℕ → ℕ → List ℕ → Bool
+allWithin lo hi [] = true
+allWithin lo hi (n ∷ ns) = within lo hi n && allWithin lo hi ns
+
+unfoldable pub eachOnce : ℕ → List ℕ → Bool
+eachOnce zero S = true
+eachOnce (suc n) S = eqb (count (suc n) S) 1 && eachOnce n S
+
+unfoldable pub isArrangement : ℕ → List ℕ → Bool
+isArrangement d S = eqb (length S) d && allWithin 1 d S && eachOnce d S
+
+-- 5 ORDER: the order isn't an arrangement of 1..d ..
+unfoldable pub order : ℕ → List ℕ → ℕ
+order d S = unless (isArrangement d S) 5
+
+-- .. in a walk state also a sign other than 1 and -1 at a place 1..d, or a non-zero order or sign past place d.
+unfoldable pub isUnit : ℤ → Bool
+isUnit (pos n) = eqb n 1
+isUnit (negsuc n) = eqb n 0
+
+unfoldable pub isZero : ℤ → Bool
+isZero (pos n) = eqb n 0
+isZero (negsuc n) = false
+
+unfoldable pub all : {A : Type 0} → (A → Bool) → List A → Bool
+all test [] = true
+all test (a ∷ rest) = test a && all test rest
+
+unfoldable pub walkOrder : Walk → ℕ
+walkOrder w =
+    unless
+      (isArrangement (w .d) (take (w .d) (w .order)) && all isUnit (take (w .d) (w .signs))
+      && all (eqb 0) (drop (w .d) (w .order)) && all isZero (drop (w .d) (w .signs)))
+      5
+
+-- 6 ROW: answer row not 1..d+1.
+unfoldable pub answer : ℕ → ℕ → ℕ
+answer d n = unless (within 1 (suc d) n) 6
+
+-- 7 MODULUS: above 2^63.
+unfoldable pub tooLarge : ℕ → ℕ
+tooLarge m = unless (leb m (2 ^ 63)) 7
+
+-- 8 ELEMENT: an element not below a modulus other than 0.
+unfoldable pub element : ℕ → List ℕ → ℕ
+element zero es = 0
+element (suc m) es = unless (allBelow (suc m) es) 8
+
+-- 9 TRAILER: plan file shorter than 12 bytes, wrong mark ..
+unfoldable pub sameBytes : List ℕ → List ℕ → Bool
+sameBytes [] [] = true
+sameBytes [] (b ∷ bs) = false
+sameBytes (a ∷ rest) [] = false
+sameBytes (a ∷ rest) (b ∷ bs) = eqb a b && sameBytes rest bs
+
+unfoldable pub trailer : List ℕ → ℕ
+trailer file = unless (leb trailerSize (length file) && sameBytes (markIn file) mark) 9
+
+-- .. or a back distance that isn't the body's, or that is more than the bytes before the trailer.
+unfoldable pub distance : List ℕ → ℕ
+distance file =
+    unless
+      (eqb (distanceIn file) (bodyLength (dIn file) (lIn file)) && leb (distanceIn file + trailerSize) (length file))
+      9
+
+-- 10 BIG: more than 4,096 bytes of input.
+unfoldable pub big : List ℕ → ℕ
+big file = unless (leb (length file) 4096) 10
+
+-- ---- each operation
+
+-- A plan that is read: 1, 2, 3, 5, 6. What stands at number 3 is handed in: it covers every buffer lent to the call.
+unfoldable pub planRefusal : Plan → ℕ → ℕ
+planRefusal p shapes = dim (p .d) then len (p .l) then shapes then order (p .d) (p .start) then answer (p .d) (p .answer)
+
+-- The shape of a plan's own buffers.
+unfoldable pub planShape : Plan → ℕ
+planShape p = shape (p .start) (startLength (p .d)) then shape (p .bits) (bitsLength (p .d) (p .l))
+
+-- The d scalars in lent words.
+unfoldable pub scalarsIn : ℕ → ℕ → List ℕ → List ℕ
+scalarsIn d l ws = numbersOf d (scalarWords l) ws
+
+-- Encode: 1, 2, 3, 4.
+unfoldable pub encodeRefusal : ℕ → ℕ → List ℕ → List ℕ → List ℕ → ℕ
+encodeRefusal d l scalars start bits =
+    dim d then len l
+    then (shape scalars (scalarsLength d l) then shape start (startLength d) then shape bits (bitsLength d l))
+    then scalar l (scalarsIn d l scalars)
+
+-- Decode: 1, 2, 3, 5, 6.
+unfoldable pub decodeRefusal : Plan → List ℕ → ℕ
+decodeRefusal p values = planRefusal p (planShape p then shape values (valuesLength (p .d) (p .l)))
+
+-- Check: 1, 2, 3, 5, 6, 4.
+unfoldable pub checkRefusal : Plan → List ℕ → ℕ
+checkRefusal p scalars =
+    planRefusal p (planShape p then shape scalars (scalarsLength (p .d) (p .l)))
+    then scalar (p .l) (scalarsIn (p .d) (p .l) scalars)
+
+-- Step: 1, 5, 3.
+unfoldable pub stepRefusal : Walk → ℕ → ℕ
+stepRefusal w n = dim (w .d) then walkOrder w then stepShape (w .d) n
+
+-- Trace: 1, 2, 3, 5, 6.
+unfoldable pub traceRefusal : Plan → List ℕ → ℕ
+traceRefusal p trace = planRefusal p (planShape p then shape trace (traceLength (p .d) (p .l)))
+
+-- Plain run and difference run: 1, 2, 3, 5, 6, 7, 8.
+unfoldable pub runRefusal : Plan → ℕ → List ℕ → List ℕ → ℕ
+runRefusal p m elements registers =
+    planRefusal p (planShape p then shape elements (elementsLength (p .d)) then shape registers (registersLength (p .d)))
+    then tooLarge m then element m elements
+
+-- Pack: 1, 2, 3, 5, 6.
+unfoldable pub packRefusal : Plan → List ℕ → ℕ
+packRefusal p file = planRefusal p (planShape p then shape file (fileLength (p .d) (p .l)))
+
+-- Unpack: 9 for short or mark; 1; 2; 9 for the distance; 5; 6. Where a loose plan has number 3, a file has its distance.
+unfoldable pub unpackRefusal : List ℕ → ℕ
+unpackRefusal file = trailer file then planRefusal (planIn file) (distance file)
+
+-- The listing: 10, then as unpack.
+unfoldable pub listRefusal : List ℕ → ℕ
+listRefusal file = big file then unpackRefusal file
