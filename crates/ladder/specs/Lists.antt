@@ -15,10 +15,6 @@ unfoldable pub joined : {A : Type 0} → ℕ → (ℕ → List A) → List A
 joined zero f = []
 joined (suc n) f = joined n f ++ f n
 
--- The lists of a list, one after the other.
-unfoldable pub flat : {A : Type 0} → List (List A) → List A
-flat [] = []
-flat (a ∷ rest) = a ++ flat rest
 
 -- 1 where two numbers are the same, else 0.
 unfoldable pub same : ℕ → ℕ → ℕ

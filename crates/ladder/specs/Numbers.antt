@@ -1,9 +1,9 @@
 -- "Numbers": words and bits, and the length of every buffer.
 -- Assumes nothing.
 use Prim.Native.Nat.{ℕ, zero, suc, _+_, _-_, _*_, _/_, _%_, _^_}
-use mathlib.Core.List.{List, [], _∷_, map}
+use mathlib.Core.List.{List, [], _∷_, map, flatten}
 use lib.ListN.{length, getD, take, drop}
-use Rattle.ladder.specs.Lists.{tabulate, flat}
+use Rattle.ladder.specs.Lists.{tabulate}
 
 -- ---- words of 64 bits, lowest word first
 
@@ -23,7 +23,7 @@ numbersOf d k ws = tabulate d (λ j. numberOf (take k (drop (j * k) ws)))
 
 -- Numbers laid out one after the other, k words each.
 unfoldable pub wordsOfAll : ℕ → List ℕ → List ℕ
-wordsOfAll k ns = flat (map (wordsOf k) ns)
+wordsOfAll k ns = flatten (map (wordsOf k) ns)
 
 -- ---- bits in bytes
 

@@ -1,10 +1,10 @@
 -- The trace: what each step adds to what, and the difference of the two rows.
 -- Assumes nothing.
 use Prim.Native.Nat.{ℕ, zero, suc, _+_, _-_}
-use mathlib.Core.List.{List, [], _∷_, map}
+use mathlib.Core.List.{List, [], _∷_, map, flatten}
 use lib.IntN.{ℤ, pos, negsuc, subℕ}
 use lib.ListN.{getD}
-use Rattle.ladder.specs.Lists.{tabulate, joined, flat, same, ones}
+use Rattle.ladder.specs.Lists.{tabulate, joined, same, ones}
 use Rattle.ladder.specs.Matrix.{Row, Matrix, row, Pair, additions}
 use Rattle.ladder.specs.Plan.{Plan, matrixIn, stepBits}
 
@@ -46,7 +46,7 @@ unfoldable pub entryBytes : Entry → List ℕ
 entryBytes e = suc (e .x) ∷ suc (e .y) ∷ map signedByte (e .vector)
 
 unfoldable pub traceBytes : List Entry → List ℕ
-traceBytes es = flat (map entryBytes es)
+traceBytes es = flatten (map entryBytes es)
 
 -- The doublings are the entries with x = y, the additions the others.
 unfoldable pub doublings : List Entry → ℕ
