@@ -1,16 +1,16 @@
 -- Laws of the lists that the definitions are made of.
 -- Assumes nothing.
-use Prim.Native.Nat.{ℕ, zero, suc, _+_, _-_, _%_, _≤_, _<_}
-use mathlib.Core.Path.{_≡_, refl, sym, ap, _∙_}
-use mathlib.Core.Logic.{_≢_, _⊎_, inl, inr}
-use mathlib.Core.Bool.{Bool, true, false}
+use Prim.Native.Nat.{ℕ, zero, suc, _+_, _-_, _*_, _≤_, _<_}
+use mathlib.Core.Path.{_≡_, refl, sym, ap, ap₂, subst, _∙_}
+use mathlib.Core.Logic.{_≢_}
+use mathlib.Core.Bool.{Bool, true, false, cond}
 use mathlib.Core.List.{List, [], _∷_, _++_, map}
-use native.Mathlib.Nat.{le-of-suc-le-suc, not-suc-le-zero}
+use native.Mathlib.Nat.{le-of-suc-le-suc, not-suc-le-zero, zero-mul, suc-mul}
 use native.Mathlib.Decide.{ℕ-discrete}
 use native.Mathlib.Omega.{arith}
 use lib.Dec.{T, eqb, eqb→eq, eqb-refl}
-use lib.ListN.{length, getD, take, drop, replicate}
-use Rattle.ladder.specs.Lists.{tabulate, joined, same, count, ones, odds}
+use lib.ListN.{length, getD, length-append}
+use Rattle.ladder.specs.Lists.{tabulate, joined, same, count, ones}
 
 -- ---- a list made from a rule
 
@@ -29,4 +29,98 @@ getD-tabulate (suc n) f (suc i) z h = getD-tabulate n (λ k. f (suc k)) i z (le-
 pub tabulate-same : {A : Type 0} (n : ℕ) (f g : ℕ → A) → ((k : ℕ) → k < n → f k ≡ g k) → tabulate n f ≡ tabulate n g
 unfolding tabulate
 tabulate-same zero f g e = refl
-tabulate-same (suc n) f g e = ?
+tabulate-same (suc n) f g e =
+    ap₂ (λ a rest. a ∷ rest) (e zero (omega arith))
+      (tabulate-same n (λ k. f (suc k)) (λ k. g (suc k)) (λ k h. e (suc k) (omega arith)))
+
+-- A list is made from its own elements.
+pub tabulate-getD : {A : Type 0} (l : List A) (z : A) → tabulate (length l) (λ k. getD l k z) ≡ l
+unfolding tabulate
+tabulate-getD [] z = refl
+tabulate-getD (a ∷ l) z = ap (λ rest. a ∷ rest) (tabulate-getD l z)
+
+-- ---- elements of a mapped list
+
+pub getD-map : {A B : Type 0} (f : A → B) (l : List A) (i : ℕ) (z : A) (w : B) → i < length l → getD (map f l) i w ≡ f (getD l i z)
+getD-map f [] i z w h = absurd (not-suc-le-zero h)
+getD-map f (a ∷ l) zero z w h = refl
+getD-map f (a ∷ l) (suc i) z w h = getD-map f l i z w (le-of-suc-le-suc h)
+
+pub map-map : {A B C : Type 0} (g : B → C) (f : A → B) (l : List A) → map g (map f l) ≡ map (λ a. g (f a)) l
+map-map g f [] = refl
+map-map g f (a ∷ l) = ap (λ rest. g (f a) ∷ rest) (map-map g f l)
+
+-- ---- lists joined
+
+pub length-joined : {A : Type 0} (d n : ℕ) (f : ℕ → List A) → ((s : ℕ) → s < n → length (f s) ≡ d) → length (joined n f) ≡ n * d
+unfolding joined
+length-joined d zero f h = sym (zero-mul d)
+length-joined d (suc n) f h =
+    length-append (joined n f) (f n)
+    ∙ ap₂ (λ a b. a + b) (length-joined d n f (λ s l. h s (omega arith))) (h n (omega arith))
+    ∙ sym (suc-mul n d)
+
+-- Two rules that agree below n are joined to the same list.
+pub joined-same : {A : Type 0} (n : ℕ) (f g : ℕ → List A) → ((s : ℕ) → s < n → f s ≡ g s) → joined n f ≡ joined n g
+unfolding joined
+joined-same zero f g e = refl
+joined-same (suc n) f g e = ap₂ (λ a b. a ++ b) (joined-same n f g (λ s l. e s (omega arith))) (e n (omega arith))
+
+-- ---- the same number, and counts
+
+pub same-self : (i : ℕ) → same i i ≡ 1
+unfolding same
+same-self i = go (eqb i i) refl (eqb-refl i)
+  where
+    go : (b : Bool) → eqb i i ≡ b → T b → same i i ≡ 1
+    go true e t = ap (λ c. cond c 1 0) e
+    go false e t = absurd t
+
+pub same-other : (i j : ℕ) → i ≢ j → same i j ≡ 0
+unfolding same
+same-other i j ne = go (eqb i j) refl
+  where
+    go : (b : Bool) → eqb i j ≡ b → same i j ≡ 0
+    go true e = absurd (ne (eqb→eq i j (subst (λ c. T c) (sym e) tt)))
+    go false e = ap (λ c. cond c 1 0) e
+
+-- `same` as arithmetic that `omega` reads.
+pub same-is : (i j : ℕ) → same i j ≡ 1 - (i - j) - (j - i)
+same-is i j = go (ℕ-discrete i j)
+  where
+    go : Dec (i ≡ j) → same i j ≡ 1 - (i - j) - (j - i)
+    go (yes e) = rw e (omega (arith, same-self j))
+    go (no ne) = omega (arith, same-other i j ne)
+
+pub count-append : (j : ℕ) (s t : List ℕ) → count j (s ++ t) ≡ count j s + count j t
+unfolding count
+count-append j [] t = omega arith
+count-append j (i ∷ s) t = omega (arith, count-append j s t)
+
+-- What stands at a place is counted.
+pub count-at : (j : ℕ) (S : List ℕ) (k : ℕ) → k < length S → getD S k 0 ≡ j → 0 < count j S
+unfolding count
+count-at j [] k h e = absurd (not-suc-le-zero h)
+count-at j (i ∷ S) zero h e = omega (arith, same-is i j)
+count-at j (i ∷ S) (suc k) h e = omega (arith, count-at j S k (le-of-suc-le-suc h) e)
+
+-- What is counted stands at a place.
+pub place : (j : ℕ) (S : List ℕ) → 0 < count j S → (k : ℕ) × (k < length S) × (getD S k 0 ≡ j)
+unfolding count
+place j [] h = absurd (not-suc-le-zero h)
+place j (i ∷ S) h = go (ℕ-discrete i j) (λ l. place j S l)
+  where
+    go : Dec (i ≡ j) → (0 < count j S → (k : ℕ) × (k < length S) × (getD S k 0 ≡ j))
+        → (k : ℕ) × (k < length (i ∷ S)) × (getD (i ∷ S) k 0 ≡ j)
+    go (yes e) further = (zero, omega arith, e)
+    go (no ne) further =
+        let p = further (omega (arith, same-other i j ne)) in
+        (suc (p .0), omega (arith, p .1), p .2)
+
+-- ---- ones and odds
+
+pub ones-le : (r : List ℕ) → ones r ≤ length r
+unfolding ones
+ones-le [] = omega arith
+ones-le (zero ∷ r) = omega (arith, ones-le r)
+ones-le (suc b ∷ r) = omega (arith, ones-le r)
