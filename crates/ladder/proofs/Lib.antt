@@ -1,3 +1,4 @@
 pub mod Lists
 pub mod Step
+pub mod Order
 pub mod Cases
