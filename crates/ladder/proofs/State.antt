@@ -233,3 +233,163 @@ module _ {d : ℕ} {B : Matrix} {S : List ℕ} (C : Stairs d B S) (r : List ℕ)
               (C .stair (rowX r (suc k))
                 (omega (arith, onesTo-one r k (omega arith) (omega arith), ones-le r, onesTo-all r,
                   onesTo-between r (suc k) (length r) (omega arith) .0))))
+
+  new-order : Arrangement d (stepOrder S r)
+  new-order = arrangement-step (C .order) r long
+
+  -- The columns after a step are stairs at their new places.
+  pub stairs-step : Stairs d (step B r) (stepOrder S r)
+  stairs-step = record {
+      rows = length-step B r ∙ ap suc long;
+      wide = wide-step d B r long (C .wide);
+      order = new-order;
+      stair = λ k h.
+        let st = stair-step k h in
+        record {
+          upper = λ i l. st .upper i l ∙ sym (st .upper 0 (omega arith));
+          lower = λ i l m. st .lower i l m ∙ sym (st .lower d h (omega arith)) };
+      even = λ j.
+        let e = entry-step B r 0 j (omega arith) in
+        let s : rowX r 0 ≡ rowY r 0 = omega (arith, onesTo-le r 0) in
+        omega (arith, e, ap (λ i. entry B i j) s);
+      apart = λ j h. let p = place-of new-order j h in subst Apart (p .2) (apart-new (p .0) (p .1)) }
+    where
+      Apart : ℕ → Type 0
+      Apart j = (entry (step B r) d j ≡ suc (entry (step B r) 0 j)) ⊎ (entry (step B r) 0 j ≡ suc (entry (step B r) d j))
+      next-apart : (b e o : ℕ) → (o ≡ suc e) ⊎ (e ≡ suc o) → (e + o ≡ suc (nextEven b e o)) ⊎ (nextEven b e o ≡ suc (e + o))
+      next-apart zero e o (inl p) = inl (omega arith)
+      next-apart zero e o (inr p) = inr (omega arith)
+      next-apart (suc b) e o (inl p) = inr (omega arith)
+      next-apart (suc b) e o (inr p) = inl (omega arith)
+      apart-new : (k : ℕ) → k < d → Apart (getD (stepOrder S r) k 0)
+      apart-new k h =
+          let j = getD (stepOrder S r) k 0 in
+          let st = stair-step k h in
+          let low = st .lower d h (omega arith) in
+          let up = st .upper 0 (omega arith) in
+          ⊎-elim (λ e. inl (low ∙ e ∙ ap suc (sym up))) (λ e. inr (up ∙ e ∙ ap suc (sym low)))
+            (next-apart (getD r k 0) (entry B 0 j) (entry B d j) (C .apart j (new-order .inside k h)))
+
+-- ---- signs
+
+pub sign-up : (e o : ℕ) → o ≡ suc e → signOf e o ≡ pos 1
+unfolding signOf
+sign-up e o p = go (eqb o (suc e)) refl (subst (λ n. T (eqb o n)) p (eqb-refl o))
+  where
+    go : (b : Bool) → eqb o (suc e) ≡ b → T b → signOf e o ≡ pos 1
+    go true q t = ap (λ c. cond c (pos 1) (negsuc 0)) q
+    go false q t = absurd t
+
+pub sign-down : (e o : ℕ) → e ≡ suc o → signOf e o ≡ negsuc 0
+unfolding signOf
+sign-down e o p = go (eqb o (suc e)) refl
+  where
+    go : (b : Bool) → eqb o (suc e) ≡ b → signOf e o ≡ negsuc 0
+    go true q = absurd (let f = eqb→eq o (suc e) (subst (λ c. T c) (sym q) tt) in omega arith)
+    go false q = ap (λ c. cond c (pos 1) (negsuc 0)) q
+
+pub length-turn : (signs : List ℤ) (S r : List ℕ) → length (turn signs S r) ≡ length signs
+unfolding turn
+length-turn signs [] r = refl
+length-turn signs (j ∷ S) [] = refl
+length-turn signs (j ∷ S) (zero ∷ r) = length-turn signs S r
+length-turn signs (j ∷ S) (suc b ∷ r) =
+    length-turn (set signs j (negℤ (getD signs j (pos 0)))) S r ∙ length-set signs j (negℤ (getD signs j (pos 0)))
+
+-- A sign after a step that gives its column this bit.
+abbrev pub turned : ℕ → ℤ → ℤ
+turned zero s = s
+turned (suc b) s = negℤ s
+
+turn-none : (signs : List ℤ) (S r : List ℕ) (j : ℕ) → count j S ≡ 0 → getD (turn signs S r) j (pos 0) ≡ getD signs j (pos 0)
+unfolding turn count
+turn-none signs [] r j h = refl
+turn-none signs (i ∷ S) [] j h = refl
+turn-none signs (i ∷ S) (zero ∷ r) j h = turn-none signs S r j (omega arith)
+turn-none signs (i ∷ S) (suc b ∷ r) j h =
+    turn-none (set signs i (negℤ (getD signs i (pos 0)))) S r j (omega arith)
+    ∙ getD-set-other signs i j (negℤ (getD signs i (pos 0))) (pos 0) (omega (arith, same-is i j))
+
+-- Turning reaches the column that stands at place k just where bit k is 1.
+pub turn-at : (signs : List ℤ) (S r : List ℕ) (k : ℕ) → length S ≡ length r → k < length S → count (getD S k 0) S ≡ 1
+    → getD S k 0 < length signs
+    → getD (turn signs S r) (getD S k 0) (pos 0) ≡ turned (getD r k 0) (getD signs (getD S k 0) (pos 0))
+unfolding turn count
+turn-at signs [] r k e h c l = absurd (not-suc-le-zero h)
+turn-at signs (i ∷ S) [] k e h c l = absurd (omega arith)
+turn-at signs (i ∷ S) (zero ∷ r) zero e h c l = turn-none signs S r i (omega (arith, same-is i i))
+turn-at signs (i ∷ S) (suc b ∷ r) zero e h c l =
+    turn-none (set signs i (negℤ (getD signs i (pos 0)))) S r i (omega (arith, same-is i i))
+    ∙ getD-set-same signs i (negℤ (getD signs i (pos 0))) (pos 0) l
+turn-at signs (i ∷ S) (zero ∷ r) (suc k) e h c l =
+    turn-at signs S r k (omega arith) (le-of-suc-le-suc h)
+      (omega (arith, count-at (getD S k 0) S k (le-of-suc-le-suc h) refl)) l
+turn-at signs (i ∷ S) (suc b ∷ r) (suc k) e h c l =
+    let s = negℤ (getD signs i (pos 0)) in
+    let more = count-at (getD S k 0) S k (le-of-suc-le-suc h) refl in
+    turn-at (set signs i s) S r k (omega arith) (le-of-suc-le-suc h) (omega arith) (omega (arith, length-set signs i s))
+    ∙ ap (turned (getD r k 0)) (getD-set-other signs i (getD S k 0) s (pos 0) (omega (arith, same-is i (getD S k 0))))
+
+pub length-signsOf : (d : ℕ) (B : Matrix) → length (signsOf d B) ≡ d
+unfolding signsOf
+length-signsOf d B = length-tabulate d (λ j. signOf (entry B 0 j) (entry B d j))
+
+pub getD-signsOf : (d : ℕ) (B : Matrix) (j : ℕ) → j < d → getD (signsOf d B) j (pos 0) ≡ signOf (entry B 0 j) (entry B d j)
+unfolding signsOf
+getD-signsOf d B j h = getD-tabulate d (λ i. signOf (entry B 0 i) (entry B d i)) j (pos 0) h
+
+module _ {d : ℕ} {B : Matrix} {S : List ℕ} (C : Stairs d B S) (r : List ℕ) (long : length r ≡ d) where
+  next-sign : (b e o : ℕ) → (o ≡ suc e) ⊎ (e ≡ suc o) → signOf (nextEven b e o) (e + o) ≡ turned b (signOf e o)
+  next-sign zero e o (inl p) = sign-up (e + e) (e + o) (omega arith) ∙ sym (sign-up e o p)
+  next-sign zero e o (inr p) = sign-down (e + e) (e + o) (omega arith) ∙ sym (sign-down e o p)
+  next-sign (suc b) e o (inl p) = sign-down (o + o) (e + o) (omega arith) ∙ ap negℤ (sym (sign-up e o p))
+  next-sign (suc b) e o (inr p) = sign-up (o + o) (e + o) (omega arith) ∙ ap negℤ (sym (sign-down e o p))
+
+  sign-at : (k : ℕ) → k < d
+      → getD (signsOf d (step B r)) (getD (stepOrder S r) k 0) (pos 0)
+      ≡ getD (turn (signsOf d B) (stepOrder S r) r) (getD (stepOrder S r) k 0) (pos 0)
+  sign-at k h =
+      let new = new-order C r long in
+      let j = getD (stepOrder S r) k 0 in
+      let st = stair-step C r long k h in
+      getD-signsOf d (step B r) j (new .inside k h)
+      ∙ ap₂ signOf (st .upper 0 (omega arith)) (st .lower d h (omega arith))
+      ∙ next-sign (getD r k 0) (entry B 0 j) (entry B d j) (C .apart j (new .inside k h))
+      ∙ ap (turned (getD r k 0)) (sym (getD-signsOf d B j (new .inside k h)))
+      ∙ sym (turn-at (signsOf d B) (stepOrder S r) r k (length-stepOrder S r) (omega (arith, length-stepOrder S r))
+          (new .once j (new .inside k h)) (omega (arith, length-signsOf d B, new .inside k h)))
+
+  -- The signs after a step are those that the rule gives.
+  pub signs-step : signsOf d (step B r) ≡ stepSigns (signsOf d B) S r
+  unfolding stepSigns
+  signs-step =
+      ext-getD (pos 0) (signsOf d (step B r)) (turn (signsOf d B) (stepOrder S r) r)
+        (length-signsOf d (step B r) ∙ sym (length-signsOf d B) ∙ sym (length-turn (signsOf d B) (stepOrder S r) r))
+        (λ j h.
+          let p = place-of (new-order C r long) j (omega (arith, length-signsOf d (step B r))) in
+          subst
+            (λ c. getD (signsOf d (step B r)) c (pos 0) ≡ getD (turn (signsOf d B) (stepOrder S r) r) c (pos 0))
+            (p .2) (sign-at (p .0) (p .1)))
+
+-- ---- the theorems
+
+-- A step takes any state matrix to a state matrix, whose order is the one that the rule gives (an arrangement again) ..
+pub step-state : {d : ℕ} {B : Matrix} {S : List ℕ} → StateMatrix d B S → (r : List ℕ) → length r ≡ d
+    → StateMatrix d (step B r) (stepOrder S r)
+step-state M r long = from-stairs (stairs-step (stairs M) r long)
+
+-- .. and whose signs are those that the rule gives.
+pub step-signs : {d : ℕ} {B : Matrix} {S : List ℕ} → StateMatrix d B S → (r : List ℕ) → length r ≡ d
+    → signsOf d (step B r) ≡ stepSigns (signsOf d B) S r
+step-signs M r long = signs-step (stairs M) r long
+
+-- A state matrix has exactly one order.
+pub one-order : {d : ℕ} {B : Matrix} (S U : List ℕ) → StateMatrix d B S → StateMatrix d B U → S ≡ U
+one-order {d} {B} S U M N =
+    ext-getD 0 S U (M .order .long ∙ sym (N .order .long)) (λ k h. go k (omega (arith, M .order .long)) (ℕ-discrete (getD S k 0) (getD U k 0)))
+  where
+    differ : (k : ℕ) → k < d → entry B k (getD S k 0) ≡ entry B (suc k) (getD S k 0) → ⊥
+    differ k h e = ⊎-elim (λ p. omega arith) (λ p. omega arith) (M .next k h .here)
+    go : (k : ℕ) → k < d → Dec (getD S k 0 ≡ getD U k 0) → getD S k 0 ≡ getD U k 0
+    go k h (yes e) = e
+    go k h (no n) = absurd (differ k h (N .next k h .elsewhere (getD S k 0) n))
