@@ -4,4 +4,7 @@ pub mod Bits
 pub mod Step
 pub mod Order
 pub mod State
+pub mod Ladder
+pub mod Walk
+pub mod Refusals
 pub mod Cases

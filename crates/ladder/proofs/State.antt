@@ -234,7 +234,7 @@ module _ {d : ℕ} {B : Matrix} {S : List ℕ} (C : Stairs d B S) (r : List ℕ)
                 (omega (arith, onesTo-one r k (omega arith) (omega arith), ones-le r, onesTo-all r,
                   onesTo-between r (suc k) (length r) (omega arith) .0))))
 
-  new-order : Arrangement d (stepOrder S r)
+  pub new-order : Arrangement d (stepOrder S r)
   new-order = arrangement-step (C .order) r long
 
   -- The columns after a step are stairs at their new places.

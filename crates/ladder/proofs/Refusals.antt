@@ -1,0 +1,411 @@
+-- When each refusal is 0, so that a call goes on, and which numbers it can be.
+-- Assumes nothing.
+use Prim.Native.Nat.{ℕ, zero, suc, pred, min, _+_, _-_, _^_, _≤_, _<_}
+use mathlib.Core.Path.{_≡_, refl, sym, ap, ap₂, subst, _∙_}
+use mathlib.Core.Logic.{_↔_, _⊎_, inl, inr, ⊎-elim}
+use mathlib.Core.Bool.{Bool, true, false, cond, _&&_}
+use mathlib.Core.List.{List, [], _∷_, map}
+use native.Mathlib.Nat.{le-of-suc-le-suc, not-suc-le-zero, suc-pred-eq-of-pos}
+use native.Mathlib.Decide.{ℕ-discrete, decLt}
+use native.Mathlib.Omega.{arith}
+use lib.Dec.{T, eqb, leb, ltb, leb→le, le→leb, eqb→eq, eqb-refl, eqb·suc-suc}
+use lib.IntN.{ℤ, pos, negsuc, pos-ne-negsuc}
+use lib.ListN.{length, take, drop, getD, length-map, length-take, List·getD-map, List·getD-eq-default}
+use lib.Seq.{getD-take, getD-drop}
+use Rattle.ladder.specs.Lists.{same, count, allBelow}
+use Rattle.ladder.specs.Matrix.{Arrangement}
+use Rattle.ladder.specs.Plan.{Plan, startOrder}
+use Rattle.ladder.specs.Walk.{Walk}
+use Rattle.ladder.specs.Refusals.{_then_, unless, within, dim, len, shape, stepShape, scalar, allWithin, eachOnce, isArrangement, order, isUnit, isZero, all, walkOrder, answer, tooLarge, element, trailer, distance, big, planRefusal}
+use Rattle.ladder.proofs.Lists.{getD-map}
+
+-- ---- tests and their order
+
+-- Nothing is refused by two in a row only where neither refuses.
+pub then-none : (m n : ℕ) → m then n ≡ 0 → (m ≡ 0) × (n ≡ 0)
+unfolding _then_
+then-none zero n e = (refl, e)
+then-none (suc m) n e = absurd (omega arith)
+
+-- Where neither of two refuses, nothing is refused by them in a row.
+pub none-then : (m n : ℕ) → m ≡ 0 → n ≡ 0 → m then n ≡ 0
+unfolding _then_
+none-then m n e f = rw e f
+
+-- A refusal that is not given has its test passed.
+pub unless-none : (test : Bool) (n : ℕ) → unless test (suc n) ≡ 0 → T test
+unfolding unless
+unless-none true n e = tt
+unless-none false n e = omega arith
+
+-- A passed test gives no refusal.
+pub none-unless : (test : Bool) (n : ℕ) → T test → unless test n ≡ 0
+unfolding unless
+none-unless true n t = refl
+none-unless false n t = absurd t
+
+-- A test gives 0 or its own number.
+pub unless-is : (test : Bool) (n : ℕ) → (unless test n ≡ 0) ⊎ (unless test n ≡ n)
+unfolding unless
+unless-is true n = inl refl
+unless-is false n = inr refl
+
+-- ---- what tests say
+
+-- A test passes exactly where P is so.
+pub record Says (test : Bool) (P : Type 0) : Type 0 where
+  pub told : T test → P
+  pub passed : P → T test
+
+-- What a test says is what its refusal being 0 says.
+pub unless-says : {test : Bool} {P : Type 0} (n : ℕ) → Says test P → unless test (suc n) ≡ 0 ↔ P
+unless-says {test} n s = (λ e. s .told (unless-none test n e), λ p. none-unless test (suc n) (s .passed p))
+
+-- The same in other words.
+pub reworded : {test : Bool} {P Q : Type 0} → Says test P → P ↔ Q → Says test Q
+reworded s e = record { told = λ t. e .0 (s .told t); passed = λ q. s .passed (e .1 q) }
+
+-- The test of "at most".
+pub leb-says : (m n : ℕ) → Says (leb m n) (m ≤ n)
+leb-says m n = record { told = leb→le m n; passed = le→leb m n }
+
+-- The test of equality.
+pub eqb-says : (m n : ℕ) → Says (eqb m n) (m ≡ n)
+eqb-says m n = record { told = eqb→eq m n; passed = λ e. subst (λ k. T (eqb m k)) e (eqb-refl m) }
+
+-- Two tests say what both say.
+pub and-says : {a b : Bool} {P Q : Type 0} → Says a P → Says b Q → Says (a && b) (P × Q)
+and-says {a = true} p q = record { told = λ t. (p .told tt, q .told t); passed = λ t. q .passed (t .1) }
+and-says {a = false} p q = record { told = λ t. absurd t; passed = λ t. p .passed (t .0) }
+
+-- The test of a range.
+pub within-says : (lo hi n : ℕ) → Says (within lo hi n) ((lo ≤ n) × (n ≤ hi))
+unfolding within
+within-says lo hi n = and-says (leb-says lo n) (leb-says n hi)
+
+-- A test of all elements says of each what it says of one.
+pub all-says : {A : Type 0} {P : A → Type 0} (test : A → Bool) (z : A) (l : List A)
+    → ((a : A) → Says (test a) (P a)) → Says (all test l) ((j : ℕ) → j < length l → P (getD l j z))
+unfolding all
+all-says test z [] says = record { told = λ t j h. absurd (not-suc-le-zero h); passed = λ f. tt }
+all-says {P} test z (a ∷ l) says =
+    reworded (and-says (says a) (all-says test z l says)) (each, λ f. (f zero (omega arith), λ j h. f (suc j) (omega arith)))
+  where
+    each : P a × ((j : ℕ) → j < length l → P (getD l j z)) → (j : ℕ) → j < length (a ∷ l) → P (getD (a ∷ l) j z)
+    each t zero h = t .0
+    each t (suc j) h = t .1 j (le-of-suc-le-suc h)
+
+-- A test that says "is z", of all elements past n, says that z stands everywhere past n.
+pub past-says : {A : Type 0} (test : A → Bool) (z : A) (n : ℕ) (l : List A)
+    → ((a : A) → Says (test a) (a ≡ z)) → Says (all test (drop n l)) ((j : ℕ) → n ≤ j → getD l j z ≡ z)
+past-says test z n l says =
+    reworded (all-says test z (drop n l) says) (
+      λ f j h.
+          let e : n + (j - n) ≡ j = omega arith in
+          ap (λ k. getD l k z) (sym e) ∙ sym (getD-drop n l (j - n) z) ∙ past f (j - n) (decLt (j - n) (length (drop n l))),
+      λ f j h. getD-drop n l j z ∙ f (n + j) (omega arith),
+    )
+  where
+    past : ((j : ℕ) → j < length (drop n l) → getD (drop n l) j z ≡ z) → (j : ℕ) → Dec (j < length (drop n l)) → getD (drop n l) j z ≡ z
+    past f j (yes h) = f j h
+    past f j (no h) = List·getD-eq-default (drop n l) z (omega arith)
+
+allBelow-all : (bound : ℕ) (l : List ℕ) → allBelow bound l ≡ all (λ n. ltb n bound) l
+unfolding allBelow all
+allBelow-all bound [] = refl
+allBelow-all bound (n ∷ l) = ap (λ b. ltb n bound && b) (allBelow-all bound l)
+
+-- Every number is below a bound.
+pub allBelow-says : (bound : ℕ) (l : List ℕ) → Says (allBelow bound l) ((j : ℕ) → j < length l → getD l j 0 < bound)
+allBelow-says bound l = rw allBelow-all (all-says (λ n. ltb n bound) 0 l (λ n. leb-says (suc n) bound))
+
+allWithin-all : (lo hi : ℕ) (l : List ℕ) → allWithin lo hi l ≡ all (within lo hi) l
+unfolding allWithin all
+allWithin-all lo hi [] = refl
+allWithin-all lo hi (n ∷ l) = ap (λ b. within lo hi n && b) (allWithin-all lo hi l)
+
+-- Every number is in a range.
+pub allWithin-says : (lo hi : ℕ) (l : List ℕ)
+    → Says (allWithin lo hi l) ((j : ℕ) → j < length l → (lo ≤ getD l j 0) × (getD l j 0 ≤ hi))
+allWithin-says lo hi l = rw allWithin-all (all-says (within lo hi) 0 l (within-says lo hi))
+
+-- Each of 1..n occurs once.
+pub eachOnce-says : (n : ℕ) (S : List ℕ) → Says (eachOnce n S) ((j : ℕ) → j < n → count (suc j) S ≡ 1)
+unfolding eachOnce
+eachOnce-says zero S = record { told = λ t j h. absurd (not-suc-le-zero h); passed = λ f. tt }
+eachOnce-says (suc n) S =
+    reworded (and-says (eqb-says (count (suc n) S) 1) (eachOnce-says n S))
+    (λ t j h. upTo t j (ℕ-discrete j n) h, λ f. (f n (omega arith), λ j h. f j (omega arith)))
+  where
+    upTo : (count (suc n) S ≡ 1) × ((i : ℕ) → i < n → count (suc i) S ≡ 1)
+        → (j : ℕ) → Dec (j ≡ n) → j < suc n → count (suc j) S ≡ 1
+    upTo t j (yes e) h = rw e (t .0)
+    upTo t j (no ne) h = t .1 j (omega arith)
+
+-- ---- orders
+
+-- An order that counts its columns from 1 is an arrangement of 1..d.
+pub record OrderOk (d : ℕ) (S : List ℕ) : Type 0 where
+  pub columns : Arrangement d (map pred S)
+  pub counted : S ≡ map suc (map pred S)
+
+-- Columns counted from 1 occur as often as those counted from 0.
+pub count-suc : (j : ℕ) (U : List ℕ) → count (suc j) (map suc U) ≡ count j U
+unfolding count same
+count-suc j [] = refl
+count-suc j (i ∷ U) = ap₂ (λ b n. cond b 1 0 + n) (eqb·suc-suc i j) (count-suc j U)
+
+-- Numbers that are not 0 come back after one is taken off and put on.
+suc-pred : (S : List ℕ) → ((j : ℕ) → j < length S → 1 ≤ getD S j 0) → S ≡ map suc (map pred S)
+suc-pred [] h = refl
+suc-pred (n ∷ S) h =
+    ap₂ (λ a l. a ∷ l) (sym (suc-pred-eq-of-pos (h zero (omega arith)))) (suc-pred S (λ j l. h (suc j) (omega arith)))
+
+-- The test of an order says that it is an arrangement of 1..d.
+pub isArrangement-says : (d : ℕ) (S : List ℕ) → Says (isArrangement d S) (OrderOk d S)
+unfolding isArrangement
+isArrangement-says d S =
+    reworded (and-says (and-says (eqb-says (length S) d) (allWithin-says 1 d S)) (eachOnce-says d S)) (
+      λ t.
+          let counted : S ≡ map suc (map pred S) = suc-pred S (λ j h. t .0 .1 j h .0) in
+          record {
+            columns = record {
+              long = length-map S pred ∙ t .0 .0;
+              inside = λ k h. rw (List·getD-map pred S k 0) (omega (arith, t .0 .1 k (omega (arith, t .0 .0))));
+              once = λ j h. sym (count-suc j (map pred S)) ∙ ap (count (suc j)) (sym counted) ∙ t .1 j h;
+            };
+            counted = counted;
+          },
+      λ ok.
+          let long : length S ≡ d = sym (length-map S pred) ∙ ok .columns .long in (
+            (long, λ j h. omega (arith, at ok j h, ok .columns .inside j (omega arith))),
+            λ j h. ap (count (suc j)) (ok .counted) ∙ count-suc j (map pred S) ∙ ok .columns .once j h,
+          ),
+    )
+  where
+    at : OrderOk d S → (j : ℕ) → j < length S → getD S j 0 ≡ suc (getD (map pred S) j 0)
+    at ok j h =
+        ap (λ l. getD l j 0) (ok .counted) ∙ getD-map suc (map pred S) j 0 0 (omega (arith, length-map S pred))
+
+-- ---- signs
+
+-- A sign is 1 or -1.
+pub isUnit-says : (s : ℤ) → Says (isUnit s) ((s ≡ pos 1) ⊎ (s ≡ negsuc 0))
+unfolding isUnit
+isUnit-says (pos n) =
+    reworded (eqb-says n 1) (λ e. inl (ap pos e), ⊎-elim (λ e. (cc)) (λ e. absurd (pos-ne-negsuc n 0 e)))
+isUnit-says (negsuc n) =
+    reworded (eqb-says n 0) (λ e. inr (ap negsuc e), ⊎-elim (λ e. absurd (pos-ne-negsuc 1 n (sym e))) (λ e. (cc)))
+
+-- A sign is 0.
+pub isZero-says : (s : ℤ) → Says (isZero s) (s ≡ pos 0)
+unfolding isZero
+isZero-says (pos n) = reworded (eqb-says n 0) (λ e. ap pos e, λ e. (cc))
+isZero-says (negsuc n) = record { told = λ t. absurd t; passed = λ e. pos-ne-negsuc 0 n (sym e) }
+
+-- ---- the table: each refusal is 0 exactly where what it asks is so
+
+-- d is from 1 to 8.
+pub dim-none : (d : ℕ) → dim d ≡ 0 ↔ (1 ≤ d) × (d ≤ 8)
+unfolding dim
+dim-none d = unless-says 0 (within-says 1 8 d)
+
+-- l is from 1 to 576.
+pub len-none : (l : ℕ) → len l ≡ 0 ↔ (1 ≤ l) × (l ≤ 576)
+unfolding len
+len-none l = unless-says 1 (within-says 1 576 l)
+
+-- A buffer has its length.
+pub shape-none : (buffer : List ℕ) (n : ℕ) → shape buffer n ≡ 0 ↔ length buffer ≡ n
+unfolding shape
+shape-none buffer n = unless-says 2 (eqb-says (length buffer) n)
+
+-- A step's number has d bits.
+pub stepShape-none : (d n : ℕ) → stepShape d n ≡ 0 ↔ n < 2 ^ d
+unfolding stepShape
+stepShape-none d n = unless-says 2 (leb-says (suc n) (2 ^ d))
+
+-- Every scalar has l bits.
+pub scalar-none : (l : ℕ) (ks : List ℕ) → scalar l ks ≡ 0 ↔ ((j : ℕ) → j < length ks → getD ks j 0 < 2 ^ l)
+unfolding scalar
+scalar-none l ks = unless-says 3 (allBelow-says (2 ^ l) ks)
+
+-- An order is an arrangement of 1..d.
+pub order-none : (d : ℕ) (S : List ℕ) → order d S ≡ 0 ↔ OrderOk d S
+unfolding order
+order-none d S = unless-says 4 (isArrangement-says d S)
+
+-- A walk state: its first d places are an arrangement of 1..d, its first d signs are 1 or -1, and past place d all is 0.
+pub record WalkOk (w : Walk) : Type 0 where
+  pub places : OrderOk (w .d) (take (w .d) (w .order))
+  pub units : (j : ℕ) → j < w .d → j < length (w .signs)
+      → (getD (w .signs) j (pos 0) ≡ pos 1) ⊎ (getD (w .signs) j (pos 0) ≡ negsuc 0)
+  pub restOrder : (j : ℕ) → w .d ≤ j → getD (w .order) j 0 ≡ 0
+  pub restSigns : (j : ℕ) → w .d ≤ j → getD (w .signs) j (pos 0) ≡ pos 0
+
+-- A walk state is in order.
+pub walkOrder-none : (w : Walk) → walkOrder w ≡ 0 ↔ WalkOk w
+unfolding walkOrder
+walkOrder-none w =
+    let places = isArrangement-says (w .d) (take (w .d) (w .order)) in
+    let units = all-says isUnit (pos 0) (take (w .d) (w .signs)) isUnit-says in
+    let restOrder = past-says (eqb 0) 0 (w .d) (w .order) (λ n. reworded (eqb-says 0 n) (sym, sym)) in
+    let restSigns = past-says isZero (pos 0) (w .d) (w .signs) isZero-says in
+    unless-says 4 (reworded (and-says (and-says (and-says places units) restOrder) restSigns) (
+      λ t. record {
+        places = t .0 .0 .0;
+        units = λ j h l. rw getD-take at (t .0 .0 .1 j (omega (arith, long)));
+        restOrder = t .0 .1;
+        restSigns = t .1;
+      },
+      λ ok. (((ok .places, first ok), ok .restOrder), ok .restSigns),
+    ))
+  where
+    long : length (take (w .d) (w .signs)) ≡ min (w .d) (length (w .signs))
+    long = length-take (w .d) (w .signs)
+
+    first : WalkOk w → (j : ℕ) → j < length (take (w .d) (w .signs))
+        → (getD (take (w .d) (w .signs)) j (pos 0) ≡ pos 1) ⊎ (getD (take (w .d) (w .signs)) j (pos 0) ≡ negsuc 0)
+    first ok j h =
+        let inside : j < w .d = omega (arith, long) in
+        rw getD-take (ok .units j inside (omega (arith, long)))
+
+-- An answer row is from 1 to d+1.
+pub answer-none : (d n : ℕ) → answer d n ≡ 0 ↔ (1 ≤ n) × (n ≤ suc d)
+unfolding answer
+answer-none d n = unless-says 5 (within-says 1 (suc d) n)
+
+-- A modulus is at most 2^63.
+pub tooLarge-none : (m : ℕ) → tooLarge m ≡ 0 ↔ m ≤ 2 ^ 63
+unfolding tooLarge
+tooLarge-none m = unless-says 6 (leb-says m (2 ^ 63))
+
+-- The modulus is 0, or every element is below it.
+pub element-none : (m : ℕ) (es : List ℕ) → element m es ≡ 0 ↔ (m ≡ 0) ⊎ ((j : ℕ) → j < length es → getD es j 0 < m)
+unfolding element
+element-none zero es = (λ e. inl refl, λ e. refl)
+element-none (suc m) es =
+    unless-says 7 (reworded (allBelow-says (suc m) es) (inr, ⊎-elim (λ e. absurd (omega arith)) (λ f. f)))
+
+-- ---- a plan that is read
+
+-- What an accepted plan promises.
+pub record Accepted (p : Plan) : Type 0 where
+  pub dLow : 1 ≤ p .d
+  pub dHigh : p .d ≤ 8
+  pub lLow : 1 ≤ p .l
+  pub lHigh : p .l ≤ 576
+  pub start : Arrangement (p .d) (startOrder p)
+  pub columns : p .start ≡ map suc (startOrder p)
+  pub answerLow : 1 ≤ p .answer
+  pub answerHigh : p .answer ≤ suc (p .d)
+
+planRefusal-none : (p : Plan) (shapes : ℕ) → planRefusal p shapes ≡ 0 → Accepted p × (shapes ≡ 0)
+unfolding planRefusal startOrder
+planRefusal-none p shapes e =
+    let a = then-none (dim (p .d)) _ e in
+    let b = then-none (len (p .l)) _ (a .1) in
+    let c = then-none shapes _ (b .1) in
+    let f = then-none (order (p .d) (p .start)) _ (c .1) in
+    let ds = dim-none (p .d) .0 (a .0) in
+    let ls = len-none (p .l) .0 (b .0) in
+    let ok = order-none (p .d) (p .start) .0 (f .0) in
+    let row = answer-none (p .d) (p .answer) .0 (f .1) in (
+      record {
+        dLow = ds .0;
+        dHigh = ds .1;
+        lLow = ls .0;
+        lHigh = ls .1;
+        start = ok .columns;
+        columns = ok .counted;
+        answerLow = row .0;
+        answerHigh = row .1;
+      },
+      c .0,
+    )
+
+-- A plan that is not refused is an accepted one.
+pub accepted : (p : Plan) (shapes : ℕ) → planRefusal p shapes ≡ 0 → Accepted p
+accepted p shapes e = planRefusal-none p shapes e .0
+
+-- A plan that is not refused has its shapes right.
+pub accepted-shapes : (p : Plan) (shapes : ℕ) → planRefusal p shapes ≡ 0 → shapes ≡ 0
+accepted-shapes p shapes e = planRefusal-none p shapes e .1
+
+-- An accepted plan with its shapes right is not refused.
+pub accept : (p : Plan) → Accepted p → planRefusal p 0 ≡ 0
+unfolding planRefusal startOrder
+accept p ok =
+    let ds = dim-none (p .d) .1 (ok .dLow, ok .dHigh) in
+    let ls = len-none (p .l) .1 (ok .lLow, ok .lHigh) in
+    let columns = order-none (p .d) (p .start) .1 (record { columns = ok .start; counted = ok .columns }) in
+    let row = answer-none (p .d) (p .answer) .1 (ok .answerLow, ok .answerHigh) in
+    none-then _ _ ds (none-then _ _ ls (none-then 0 _ refl (none-then _ _ columns row)))
+
+-- ---- each refusal is 0 or its own number
+
+-- 1 DIM.
+pub dim-is : (d : ℕ) → (dim d ≡ 0) ⊎ (dim d ≡ 1)
+unfolding dim
+dim-is d = unless-is _ 1
+
+-- 2 LENGTH.
+pub len-is : (l : ℕ) → (len l ≡ 0) ⊎ (len l ≡ 2)
+unfolding len
+len-is l = unless-is _ 2
+
+-- 3 SHAPE, of a buffer.
+pub shape-is : (buffer : List ℕ) (n : ℕ) → (shape buffer n ≡ 0) ⊎ (shape buffer n ≡ 3)
+unfolding shape
+shape-is buffer n = unless-is _ 3
+
+-- 3 SHAPE, of a step.
+pub stepShape-is : (d n : ℕ) → (stepShape d n ≡ 0) ⊎ (stepShape d n ≡ 3)
+unfolding stepShape
+stepShape-is d n = unless-is _ 3
+
+-- 4 SCALAR.
+pub scalar-is : (l : ℕ) (ks : List ℕ) → (scalar l ks ≡ 0) ⊎ (scalar l ks ≡ 4)
+unfolding scalar
+scalar-is l ks = unless-is _ 4
+
+-- 5 ORDER.
+pub order-is : (d : ℕ) (S : List ℕ) → (order d S ≡ 0) ⊎ (order d S ≡ 5)
+unfolding order
+order-is d S = unless-is _ 5
+
+-- 5 ORDER, of a walk state.
+pub walkOrder-is : (w : Walk) → (walkOrder w ≡ 0) ⊎ (walkOrder w ≡ 5)
+unfolding walkOrder
+walkOrder-is w = unless-is _ 5
+
+-- 6 ROW.
+pub answer-is : (d n : ℕ) → (answer d n ≡ 0) ⊎ (answer d n ≡ 6)
+unfolding answer
+answer-is d n = unless-is _ 6
+
+-- 7 MODULUS.
+pub tooLarge-is : (m : ℕ) → (tooLarge m ≡ 0) ⊎ (tooLarge m ≡ 7)
+unfolding tooLarge
+tooLarge-is m = unless-is _ 7
+
+-- 8 ELEMENT.
+pub element-is : (m : ℕ) (es : List ℕ) → (element m es ≡ 0) ⊎ (element m es ≡ 8)
+unfolding element
+element-is zero es = inl refl
+element-is (suc m) es = unless-is _ 8
+
+-- 9 TRAILER, by its length and mark.
+pub trailer-is : (file : List ℕ) → (trailer file ≡ 0) ⊎ (trailer file ≡ 9)
+unfolding trailer
+trailer-is file = unless-is _ 9
+
+-- 9 TRAILER, by its back distance.
+pub distance-is : (file : List ℕ) → (distance file ≡ 0) ⊎ (distance file ≡ 9)
+unfolding distance
+distance-is file = unless-is _ 9
+
+-- 10 BIG.
+pub big-is : (file : List ℕ) → (big file ≡ 0) ⊎ (big file ≡ 10)
+unfolding big
+big-is file = unless-is _ 10
