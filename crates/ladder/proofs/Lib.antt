@@ -5,6 +5,7 @@ pub mod Step
 pub mod Order
 pub mod State
 pub mod Ladder
+pub mod Encoding
 pub mod Walk
 pub mod Refusals
 pub mod Cases
