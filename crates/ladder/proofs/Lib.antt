@@ -6,6 +6,7 @@ pub mod Order
 pub mod State
 pub mod Ladder
 pub mod Encoding
+pub mod Trace
 pub mod Walk
 pub mod Refusals
 pub mod Cases

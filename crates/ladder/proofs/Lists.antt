@@ -50,6 +50,13 @@ pub map-map : {A B C : Type 0} (g : B → C) (f : A → B) (l : List A) → map 
 map-map g f [] = refl
 map-map g f (a ∷ l) = ap (λ rest. g (f a) ∷ rest) (map-map g f l)
 
+-- Two functions that agree on a list's elements map it to the same list.
+pub map-same : {A B : Type 0} (f g : A → B) (l : List A) (z : A)
+    → ((i : ℕ) → i < length l → f (getD l i z) ≡ g (getD l i z)) → map f l ≡ map g l
+map-same f g [] z e = refl
+map-same f g (a ∷ l) z e =
+    ap₂ (λ b rest. b ∷ rest) (e zero (omega arith)) (map-same f g l z (λ i h. e (suc i) (omega arith)))
+
 -- ---- lists joined
 
 pub length-joined : {A : Type 0} (d n : ℕ) (f : ℕ → List A) → ((s : ℕ) → s < n → length (f s) ≡ d) → length (joined n f) ≡ n * d
