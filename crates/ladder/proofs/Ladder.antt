@@ -36,7 +36,7 @@ getD-bump u i j h = go (ℕ-discrete j i)
           (getD-set-same u j (suc (getD u j 0)) 0 h ∙ omega (arith, same-self j))
     go (no n) = getD-set-other u i j (suc (getD u i 0)) 0 n ∙ omega (arith, same-is i j)
 
-length-bump : (u : Row) (i : ℕ) → length (bump u i) ≡ length u
+pub length-bump : (u : Row) (i : ℕ) → length (bump u i) ≡ length u
 unfolding bump
 length-bump u i = length-set u i (suc (getD u i 0))
 

@@ -7,6 +7,7 @@ pub mod State
 pub mod Ladder
 pub mod Encoding
 pub mod Trace
+pub mod Registers
 pub mod Walk
 pub mod Refusals
 pub mod Cases
