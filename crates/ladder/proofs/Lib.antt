@@ -8,6 +8,7 @@ pub mod Ladder
 pub mod Encoding
 pub mod Trace
 pub mod Registers
+pub mod Decoding
 pub mod Walk
 pub mod Refusals
 pub mod Cases
