@@ -11,4 +11,5 @@ pub mod Registers
 pub mod Decoding
 pub mod Walk
 pub mod Refusals
+pub mod Demand3
 pub mod Cases

@@ -1,0 +1,129 @@
+-- Demand 3, for every accepted plan: a state matrix before and after each step; each step one doubling and d additions; the two
+-- rows of an addition differ by a vector of -1, 0, 1 that is not all zero, and the trace records the true one; the difference
+-- run ends in the plain run's registers.
+-- Assumes nothing.
+use Prim.Native.Nat.{ℕ, zero, suc, _+_, _*_, _^_, _≤_, _<_}
+use mathlib.Core.Path.{_≡_, refl, sym, ap, ap₂, subst, _∙_}
+use mathlib.Core.List.{List, [], _∷_, map}
+use native.Mathlib.Omega.{arith}
+use lib.IntN.{ℤ, pos}
+use lib.ListN.{length, getD, length-map}
+use Rattle.ladder.specs.Lists.{ones}
+use Rattle.ladder.specs.Matrix.{Row, Matrix, row, entry, addRows, doubleRow, StateMatrix, signsOf, Pair, additions, step, matrixAfter}
+use Rattle.ladder.specs.Plan.{Plan, startOrder, stepBits, matrixIn, orderIn, signsIn}
+use Rattle.ladder.specs.Trace.{difference, Entry, operations, entryOf, block, blockIn}
+use Rattle.ladder.specs.Registers.{modulus, plainRegisters, differenceRegisters}
+use Rattle.ladder.proofs.Lists.{getD-map, ones-le}
+use Rattle.ladder.proofs.Step.{rowX, rowY, rowY-inside, length-additions, additions-x, additions-y, row-step-suc}
+use Rattle.ladder.proofs.State.{Stairs, stairs}
+use Rattle.ladder.proofs.Ladder.{state-after, signs-after, entry-bound}
+use Rattle.ladder.proofs.Bits.{length-stepBits, stepBits-below}
+use Rattle.ladder.proofs.Trace.{IsUnit, IsSmall, vector-small, vector-not-zero, rows-apart, difference-at, length-difference, sub-le}
+use Rattle.ladder.proofs.Registers.{runs-agree}
+use Rattle.ladder.proofs.Refusals.{Accepted}
+
+-- What an addition of a step from matrix B is: two rows, the first above the second, whose sum is the new row; the vector is the
+-- second minus the first, of coefficients -1, 0 and 1 that are not all zero.
+pub record Adds (d : ℕ) (B : Matrix) (new : Row) (e : Entry) : Type 0 where
+  pub apart : e .x < e .y
+  pub inside : e .y ≤ d
+  pub sum : new ≡ addRows (row B (e .x)) (row B (e .y))
+  pub true-vector : e .vector ≡ difference d (row B (e .y)) (row B (e .x))
+  pub small : (j : ℕ) → IsSmall (getD (e .vector) j (pos 0))
+  pub not-zero : (j : ℕ) × (j < d) × IsUnit (getD (e .vector) j (pos 0))
+
+-- What a doubling is: one row, whose double is the new row; the vector is all zero.
+pub record Doubles (d : ℕ) (B : Matrix) (new : Row) (e : Entry) : Type 0 where
+  pub one-row : e .x ≡ e .y
+  pub inside : e .y ≤ d
+  pub twice : new ≡ doubleRow (row B (e .x))
+  pub zeros : (j : ℕ) → j < d → getD (e .vector) j (pos 0) ≡ pos 0
+
+-- What stands where a block has no entry.
+unfoldable pub noEntry : Entry
+noEntry = record { x = 0; y = 0; vector = [] }
+
+noPair : Pair
+noPair = record { x = 0; y = 0 }
+
+module _ {d : ℕ} {B : Matrix} {S : List ℕ} (M : StateMatrix d B S) (r : List ℕ) (long : length r ≡ d) where
+  -- The first entry of a step's block is a doubling ..
+  pub block-doubles : Doubles d B (row (step B r) 0) (getD (block d B r) 0 noEntry)
+  unfolding block operations entryOf step noEntry
+  block-doubles = record {
+      one-row = refl;
+      inside = omega (arith, ones-le r);
+      twice = refl;
+      zeros = λ j h.
+        difference-at d (row B (ones r)) (row B (ones r)) j h
+        ∙ sub-le (entry B (ones r) j) (entry B (ones r) j) (omega arith) ∙ ap pos (omega arith) }
+
+  pair-adds : (p : Pair) (new : Row) → p .x < p .y → p .y ≤ d → new ≡ addRows (row B (p .x)) (row B (p .y))
+      → Adds d B new (entryOf d B p)
+  unfolding entryOf
+  pair-adds p new h l e = record {
+      apart = h;
+      inside = l;
+      sum = e;
+      true-vector = refl;
+      small = vector-small (stairs M) (p .x) (p .y) (omega arith) l;
+      not-zero = vector-not-zero (stairs M) (p .x) (p .y) (omega arith) l h }
+
+  -- .. and each other one is an addition.
+  pub block-adds : (i : ℕ) → i < d → Adds d B (row (step B r) (suc i)) (getD (block d B r) (suc i) noEntry)
+  unfolding block operations
+  block-adds i h =
+      let b : i < length r = omega arith in
+      let p = getD (additions r) i noPair in
+      let ex = additions-x r i noPair b in
+      let ey = additions-y r i noPair b in
+      subst (Adds d B (row (step B r) (suc i)))
+        (sym (getD-map (entryOf d B) (additions r) i noPair noEntry (omega (arith, length-additions r))))
+        (pair-adds p (row (step B r) (suc i))
+          (omega (arith, ex, ey, rows-apart r i b))
+          (omega (arith, ey, rowY-inside r (suc i) b))
+          (row-step-suc B r i b ∙ ap₂ (λ x y. addRows (row B x) (row B y)) (sym ex) (sym ey)))
+
+  -- There are d+1 of them.
+  pub length-block : length (block d B r) ≡ suc d
+  unfolding block operations
+  length-block = ap suc (length-map (additions r) (entryOf d B) ∙ length-additions r ∙ long)
+
+-- ---- every accepted plan
+
+module _ (p : Plan) (ok : Accepted p) where
+  -- Before and after every step: a state matrix, with the order that the rule gives ..
+  pub state-in : (n : ℕ) → StateMatrix (p .d) (matrixIn p n) (orderIn p n)
+  unfolding matrixIn orderIn
+  state-in n = state-after (ok .start) (stepBits p) (length-stepBits p) n
+
+  -- .. and the signs that the rule gives.
+  pub signs-in : (n : ℕ) → signsOf (p .d) (matrixIn p n) ≡ signsIn p n
+  unfolding matrixIn signsIn
+  signs-in n = signs-after (ok .start) (stepBits p) (length-stepBits p) n
+
+  -- Every step is one doubling ..
+  pub doubling-in : (s : ℕ) → Doubles (p .d) (matrixIn p s) (row (matrixIn p (suc s)) 0) (getD (blockIn p s) 0 noEntry)
+  unfolding blockIn matrixIn matrixAfter
+  doubling-in s = block-doubles (state-in s) (stepBits p s) (length-stepBits p s)
+
+  -- .. and d additions, whose vectors are those of the trace.
+  pub addition-in : (s i : ℕ) → i < p .d
+      → Adds (p .d) (matrixIn p s) (row (matrixIn p (suc s)) (suc i)) (getD (blockIn p s) (suc i) noEntry)
+  unfolding blockIn matrixIn matrixAfter
+  addition-in s i h = block-adds (state-in s) (stepBits p s) (length-stepBits p s) i h
+
+  pub entries-in : (s : ℕ) → length (blockIn p s) ≡ suc (p .d)
+  unfolding blockIn
+  entries-in s = length-block (state-in s) (stepBits p s) (length-stepBits p s)
+
+  -- Every entry after n steps is at most 2^n.
+  pub bound-in : (n i j : ℕ) → i ≤ p .d → entry (matrixIn p n) i j ≤ 2 ^ n
+  unfolding matrixIn
+  bound-in n i j h = entry-bound (ok .start) (stepBits p) (length-stepBits p) (stepBits-below p) n i j h
+
+  -- A run that forms each addition from the first row and the vector alone has the plain run's registers after each step.
+  pub runs-in : (m : ℕ) (es : List ℕ) → ((j : ℕ) → getD es j 0 ≤ modulus m) → (n : ℕ)
+      → differenceRegisters p m es n ≡ plainRegisters p m es n
+  unfolding differenceRegisters plainRegisters
+  runs-in m es fits n = runs-agree m es (ok .start) (stepBits p) (length-stepBits p) fits n
