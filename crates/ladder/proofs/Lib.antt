@@ -12,4 +12,6 @@ pub mod Decoding
 pub mod Walk
 pub mod Refusals
 pub mod Demand3
+pub mod Demand2
+pub mod Complete
 pub mod Cases

@@ -10,7 +10,7 @@ use native.Mathlib.Decide.{ℕ-discrete}
 use native.Mathlib.Omega.{arith}
 use lib.Dec.{T, eqb, eqb→eq, eqb-refl}
 use lib.ListN.{length, getD, length-append}
-use Rattle.ladder.specs.Lists.{tabulate, joined, same, count, ones}
+use Rattle.ladder.specs.Lists.{tabulate, joined, same, count, ones, odds}
 
 -- ---- a list made from a rule
 
@@ -131,3 +131,8 @@ unfolding ones
 ones-le [] = omega arith
 ones-le (zero ∷ r) = omega (arith, ones-le r)
 ones-le (suc b ∷ r) = omega (arith, ones-le r)
+
+pub odds-le : (u : List ℕ) → odds u ≤ length u
+unfolding odds
+odds-le [] = omega arith
+odds-le (a ∷ u) = omega (arith, odds-le u)

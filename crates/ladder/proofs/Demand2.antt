@@ -1,0 +1,162 @@
+-- Demand 2: from scalars comes a plan whose answer row is the scalars; the plan that a matrix sequence has is the encoding of what
+-- it ends in, and no other; evaluating a plan gives the same combination as its answer row.
+-- Assumes nothing.
+use Prim.Native.Nat.{ℕ, zero, suc, pred, _+_, _-_, _*_, _%_, _^_, _≤_, _<_}
+use mathlib.Core.Path.{_≡_, refl, sym, ap, ap₂, subst, _∙_}
+use mathlib.Core.List.{List, [], _∷_, map}
+use native.Mathlib.Nat.{lt-of-lt-of-le, le-of-lt}
+use native.Mathlib.Omega.{arith}
+use lib.ListN.{length, getD}
+use Rattle.ladder.specs.Lists.{tabulate, joined, odds}
+use Rattle.ladder.specs.Numbers.{numberOf, wordsOf, bitAt, bytesFor, packBits, bitsLength, valueWords}
+use Rattle.ladder.specs.Matrix.{Row, Matrix, row, entry, Arrangement, matrixAfter, orderAfter}
+use Rattle.ladder.specs.Plan.{Plan, startOrder, stepBits, matrixIn, orderIn, signsIn, lastMatrix, endOrder, answerRow}
+use Rattle.ladder.specs.Encoding.{encodedStart, encodedBits, encodeWith, houseOrder, encode}
+use Rattle.ladder.specs.Registers.{combination, modulus, plainRegisters, differenceRegisters, answerRegister}
+use Rattle.ladder.proofs.Lists.{getD-map, odds-le}
+use Rattle.ladder.proofs.Numbers.{numberOf-wordsOf, value-fits}
+use Rattle.ladder.proofs.Bits.{bitAt-packBits, step-of-packed, joined-below, length-stepBits, stepBits-below, length-packBits}
+use Rattle.ladder.proofs.Ladder.{lower, matrix-same, order-same, state-after}
+use Rattle.ladder.proofs.Encoding.{start-arranged, length-encodedBits, encodedBits-below, encoded-first-row, encoded-last-row, encoded-end, OddFirst, encoded-answer, house-arrangement, house-odd-first, neighbours, start-back, bits-back}
+use Rattle.ladder.proofs.Decoding.{walked, walkedEntry, entry-by-walk}
+use Rattle.ladder.proofs.Registers.{plain-registers}
+use Rattle.ladder.proofs.Walk.{pred-suc}
+use Rattle.ladder.proofs.Refusals.{Accepted}
+use Rattle.ladder.proofs.Demand3.{state-in, bound-in, runs-in}
+
+-- ---- what is encoded
+
+module _ {d : ℕ} (l : ℕ) (ks : List ℕ) {E : List ℕ} (a : Arrangement d E) where
+  -- The plan has the start order and the bits of each step that were worked out.
+  pub encoded-start-order : startOrder (encodeWith d l ks E) ≡ encodedStart l ks E
+  unfolding startOrder encodeWith
+  encoded-start-order = pred-suc (encodedStart l ks E)
+
+  pub encoded-step-bits : (s : ℕ) → s < l → stepBits (encodeWith d l ks E) s ≡ encodedBits l ks E s
+  unfolding stepBits encodeWith
+  encoded-step-bits s h =
+      step-of-packed d l (encodedBits l ks E) (λ t q. length-encodedBits l ks a t) (encodedBits-below l ks a) s h
+
+  pub encoded-last-matrix : lastMatrix (encodeWith d l ks E) ≡ matrixAfter d (encodedStart l ks E) (encodedBits l ks E) l
+  unfolding lastMatrix matrixIn encodeWith
+  encoded-last-matrix =
+      ap (λ S. matrixAfter d S (stepBits (encodeWith d l ks E)) l) encoded-start-order
+      ∙ matrix-same d (encodedStart l ks E) (stepBits (encodeWith d l ks E)) (encodedBits l ks E) l encoded-step-bits
+
+  -- The order of the last matrix is the end order.
+  pub encoded-end-order : endOrder (encodeWith d l ks E) ≡ E
+  unfolding endOrder orderIn encodeWith
+  encoded-end-order =
+      ap (λ S. orderAfter S (stepBits (encodeWith d l ks E)) l) encoded-start-order
+      ∙ order-same (encodedStart l ks E) (stepBits (encodeWith d l ks E)) (encodedBits l ks E) l encoded-step-bits
+      ∙ encoded-end l ks a
+
+  -- In column j the last matrix has scalar plus its lowest bit in row 0 (the rules' row 1), and scalar plus 1 minus its lowest
+  -- bit in row d (the rules' row d+1).
+  pub first-row-encoded : ((j : ℕ) → j < d → getD ks j 0 < 2 ^ l) → (j : ℕ) → j < d
+      → entry (lastMatrix (encodeWith d l ks E)) 0 j ≡ getD ks j 0 + getD ks j 0 % 2
+  first-row-encoded fits j h = ap (λ B. entry B 0 j) encoded-last-matrix ∙ encoded-first-row l ks a fits j h
+
+  pub last-row-encoded : ((j : ℕ) → j < d → getD ks j 0 < 2 ^ l) → (j : ℕ) → j < d
+      → entry (lastMatrix (encodeWith d l ks E)) d j ≡ getD ks j 0 + (1 - getD ks j 0 % 2)
+  last-row-encoded fits j h = ap (λ B. entry B d j) encoded-last-matrix ∙ encoded-last-row l ks a fits j h
+
+  -- With every odd scalar's column before every even one's, decoding gives the scalars.
+  pub decode-encode-with : length ks ≡ d → ((j : ℕ) → j < d → getD ks j 0 < 2 ^ l) → OddFirst d ks E
+      → answerRow (encodeWith d l ks E) ≡ ks
+  unfolding answerRow encodeWith
+  decode-encode-with wide fits f = ap (λ B. row B (odds ks)) encoded-last-matrix ∙ encoded-answer l ks a wide fits f
+
+  -- What is encoded is accepted.
+  pub encoded-accepted : length ks ≡ d → 1 ≤ d → d ≤ 8 → 1 ≤ l → l ≤ 576 → Accepted (encodeWith d l ks E)
+  unfolding encodeWith
+  encoded-accepted wide h₁ h₂ h₃ h₄ = record {
+      dLow = h₁;
+      dHigh = h₂;
+      lLow = h₃;
+      lHigh = h₄;
+      start = subst (Arrangement d) (sym encoded-start-order) (start-arranged l ks a);
+      columns = ap (map suc) (sym encoded-start-order);
+      answerLow = omega arith;
+      answerHigh = omega (arith, odds-le ks) }
+
+-- Decoding what was encoded with the house order gives the scalars.
+pub decode-encode : (d l : ℕ) (ks : List ℕ) → length ks ≡ d → ((j : ℕ) → j < d → getD ks j 0 < 2 ^ l)
+    → answerRow (encode d l ks) ≡ ks
+unfolding encode
+decode-encode d l ks wide fits =
+    decode-encode-with l ks (house-arrangement d ks wide) wide fits (house-odd-first d ks wide)
+
+-- ---- what is decoded
+
+module _ (p : Plan) (ok : Accepted p) where
+  answer-place : pred (p .answer) ≤ p .d
+  answer-place = omega (arith, ok .answerHigh)
+
+  -- The answer row has d entries of at most 2^l, so floor(l / 64) + 1 words hold each.
+  pub answer-wide : length (answerRow p) ≡ p .d
+  unfolding answerRow lastMatrix
+  answer-wide = state-in p ok (p .l) .wide (pred (p .answer)) answer-place
+
+  pub answer-bound : (j : ℕ) → getD (answerRow p) j 0 ≤ 2 ^ p .l
+  unfolding answerRow lastMatrix
+  answer-bound j = bound-in p ok (p .l) (pred (p .answer)) j answer-place
+
+  pub answer-words : (j : ℕ) → numberOf (wordsOf (valueWords (p .l)) (getD (answerRow p) j 0)) ≡ getD (answerRow p) j 0
+  answer-words j =
+      numberOf-wordsOf (valueWords (p .l)) (getD (answerRow p) j 0) (value-fits (p .l) (getD (answerRow p) j 0) (answer-bound j))
+
+  -- What a walk of orders and signs alone yields is the answer row.
+  pub answer-by-walk : (j : ℕ) → j < p .d
+      → getD (answerRow p) j 0
+      ≡ walkedEntry (walked (p .d) (startOrder p) (stepBits p) (p .l) j) (pred (p .answer)) (endOrder p) j
+  unfolding answerRow lastMatrix matrixIn endOrder orderIn
+  answer-by-walk j h =
+      entry-by-walk (ok .start) (stepBits p) (length-stepBits p) (stepBits-below p) (p .l) (pred (p .answer)) j answer-place h
+
+  -- The lower of the two numbers that column j of the last matrix holds.
+  abbrev pub lowerNeighbours : List ℕ
+  lowerNeighbours = neighbours (p .l) (ok .start) (stepBits p) (length-stepBits p) (stepBits-below p)
+
+  -- The plan, not a plan: encoding the lower neighbours with the last matrix's order gives back the start order ..
+  pub the-start : encodeWith (p .d) (p .l) lowerNeighbours (endOrder p) .start ≡ p .start
+  unfolding encodeWith endOrder orderIn
+  the-start =
+      ap (map suc) (start-back (p .l) (ok .start) (stepBits p) (length-stepBits p) (stepBits-below p)) ∙ sym (ok .columns)
+
+  -- .. and the bits of each step.
+  pub the-bits : (s : ℕ) → s < p .l → stepBits (encodeWith (p .d) (p .l) lowerNeighbours (endOrder p)) s ≡ stepBits p s
+  unfolding endOrder orderIn
+  the-bits s h =
+      encoded-step-bits (p .l) lowerNeighbours (state-after (ok .start) (stepBits p) (length-stepBits p) (p .l) .order) s h
+      ∙ bits-back (p .l) (ok .start) (stepBits p) (length-stepBits p) (stepBits-below p) s h
+
+  -- ---- what is evaluated
+
+  -- After each step the registers are the rows' combinations by the modulus.
+  pub registers-in : (m : ℕ) (es : List ℕ) (n : ℕ) → plainRegisters p m es n ≡ map (combination m es) (matrixIn p n)
+  unfolding plainRegisters matrixIn
+  registers-in m es n = plain-registers m es (ok .start) (stepBits p) (length-stepBits p) n
+
+  -- The answer is the combination of the elements by the answer row.
+  pub answer-register : (m : ℕ) (es : List ℕ) → answerRegister p (plainRegisters p m es (p .l)) ≡ combination m es (answerRow p)
+  unfolding answerRegister answerRow lastMatrix
+  answer-register m es =
+      ap (λ q. getD q (pred (p .answer)) 0) (registers-in m es (p .l))
+      ∙ getD-map (combination m es) (matrixIn p (p .l)) (pred (p .answer)) [] 0
+        (omega (arith, state-in p ok (p .l) .rows, answer-place))
+
+  -- So is the difference run's.
+  pub answer-register-difference : (m : ℕ) (es : List ℕ) → ((j : ℕ) → getD es j 0 ≤ modulus m)
+      → answerRegister p (differenceRegisters p m es (p .l)) ≡ combination m es (answerRow p)
+  answer-register-difference m es fits =
+      ap (answerRegister p) (runs-in p ok m es fits (p .l)) ∙ answer-register m es
+
+-- Over what was encoded it is the combination of the elements by the scalars.
+pub encoded-register : (d l : ℕ) (ks : List ℕ) → length ks ≡ d → ((j : ℕ) → j < d → getD ks j 0 < 2 ^ l)
+    → 1 ≤ d → d ≤ 8 → 1 ≤ l → l ≤ 576 → (m : ℕ) (es : List ℕ)
+    → answerRegister (encode d l ks) (plainRegisters (encode d l ks) m es l) ≡ combination m es ks
+unfolding encode encodeWith
+encoded-register d l ks wide fits h₁ h₂ h₃ h₄ m es =
+    answer-register (encode d l ks) (encoded-accepted l ks (house-arrangement d ks wide) wide h₁ h₂ h₃ h₄) m es
+    ∙ ap (combination m es) (decode-encode d l ks wide fits)
