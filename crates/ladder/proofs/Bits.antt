@@ -3,7 +3,7 @@
 use Prim.Native.Nat.{ℕ, zero, suc, _+_, _-_, _*_, _/_, _%_, _^_, _≤_, _<_}
 use mathlib.Core.Path.{_≡_, refl, sym, ap, ap₂, _∙_}
 use mathlib.Core.List.{List, [], _∷_, _++_}
-use native.Mathlib.Nat.{not-suc-le-zero, div-add-mod, div-div-eq-div-mul, pow-succ', two-pow-succ}
+use native.Mathlib.Nat.{not-suc-le-zero, div-add-mod, div-div-eq-div-mul, pow-succ', two-pow-succ, zero-mul, suc-mul}
 use native.Mathlib.Decide.{decLt}
 use native.Mathlib.Omega.{arith}
 use lib.Arith.{digits-lt}
@@ -12,7 +12,7 @@ use lib.Seq.{getD-append-add, getD-drop, ext-getD}
 use Rattle.ladder.specs.Lists.{tabulate, joined}
 use Rattle.ladder.specs.Numbers.{bitAt, byteOf, bytesFor, packBits}
 use Rattle.ladder.specs.Plan.{Plan, stepBits}
-use Rattle.ladder.proofs.Lists.{length-tabulate, getD-tabulate, tabulate-same, tabulate-getD, length-joined}
+use Rattle.ladder.proofs.Lists.{length-tabulate, getD-tabulate, tabulate-same, tabulate-getD, tabulate-add, length-joined}
 use Rattle.ladder.proofs.Numbers.{tabulate-below, drop-below}
 
 -- ---- a byte and its bits
@@ -180,3 +180,13 @@ stepBits-below p s = tabulate-below 2 (p .d) _ (omega arith) (λ k h. bitAt-belo
 pub length-stepBits : (p : Plan) (s : ℕ) → length (stepBits p s) ≡ p .d
 unfolding stepBits
 length-stepBits p s = length-tabulate (p .d) _
+
+-- The bits of all steps, one after the other, are the bits in number order.
+pub bits-in-order : (bytes : List ℕ) (d l : ℕ)
+    → joined l (λ s. tabulate d (λ k. bitAt bytes (s * d + k))) ≡ tabulate (l * d) (bitAt bytes)
+unfolding joined tabulate
+bits-in-order bytes d zero = sym (ap (λ n. tabulate n (bitAt bytes)) (zero-mul d))
+bits-in-order bytes d (suc l) =
+    ap (λ b. b ++ tabulate d (λ k. bitAt bytes (l * d + k))) (bits-in-order bytes d l)
+    ∙ sym (tabulate-add (l * d) d (bitAt bytes))
+    ∙ ap (λ n. tabulate n (bitAt bytes)) (sym (suc-mul l d))

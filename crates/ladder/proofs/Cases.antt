@@ -3,11 +3,11 @@
 -- Assumes nothing.
 use Prim.Native.Nat.{ℕ, _+_, _^_}
 use mathlib.Core.Path.{_≡_, refl}
-use mathlib.Core.List.{List, [], _∷_, map, flatten}
+use mathlib.Core.List.{List, [], _∷_, flatten}
 use Rattle.ladder.specs.Lists.{tabulate, joined, same, count, ones, odds}
 use Rattle.ladder.specs.Numbers.{bitAt, byteOf, bytesFor, packBits}
 use Rattle.ladder.specs.Matrix.{Row, Matrix, addRows, doubleRow, bump, rowsFrom, startMatrix, pairsFrom, additions, step, orderFrom, stepOrder, matrixAfter, orderAfter}
-use Rattle.ladder.specs.Plan.{Plan, startOrder, stepBits, matrixIn, orderIn, lastMatrix, endOrder, answerRow}
+use Rattle.ladder.specs.Plan.{startOrder, stepBits, matrixIn, orderIn, lastMatrix, endOrder, answerRow}
 use Rattle.ladder.specs.Encoding.{scalarBit, xor, dealt, deal, picked, passed, rearrange, orderToGo, encodedStart, encodedBits, encodeWith, houseOrder, encode}
 use Rattle.ladder.specs.Trace.{difference, operations, entryOf, block, blockIn, entriesIn, signedByte, entryBytes, traceBytes, doublings, additionCount}
 use Rattle.ladder.specs.Registers.{stepRegisters, registersAfter, modulus, sumOf, combination, timesSigned, signedSum, plainRule, differenceRule, startFrom, startRegisters, plainRegisters, differenceRegisters, answerRegister}
@@ -53,27 +53,54 @@ cases =
     ∷ encoding 2 1 (0 ∷ 0 ∷ []) (1 ∷ 2 ∷ []) (0x00 ∷ []) 1 ((0 ∷ 0 ∷ []) ∷ (1 ∷ 0 ∷ []) ∷ (1 ∷ 1 ∷ []) ∷ [])
     ∷ encoding 2 2 (2 ∷ 1 ∷ []) (1 ∷ 2 ∷ []) (0xb0 ∷ []) 2 ((2 ∷ 2 ∷ []) ∷ (2 ∷ 1 ∷ []) ∷ (3 ∷ 1 ∷ []) ∷ [])
     ∷ tracing 2 2 (2 ∷ 1 ∷ [])
-      (2 ∷ 2 ∷ 0 ∷ 0 ∷ 1 ∷ 2 ∷ 1 ∷ 0 ∷ 1 ∷ 3 ∷ 1 ∷ 1 ∷ 3 ∷ 3 ∷ 0 ∷ 0 ∷ 2 ∷ 3 ∷ 0 ∷ 1 ∷ 1 ∷ 3 ∷ 0xff ∷ 1 ∷ [])
-      2 4
+    (2 ∷ 2 ∷ 0 ∷ 0 ∷ 1 ∷ 2 ∷ 1 ∷ 0 ∷ 1 ∷ 3 ∷ 1 ∷ 1 ∷ 3 ∷ 3 ∷ 0 ∷ 0 ∷ 2 ∷ 3 ∷ 0 ∷ 1 ∷ 1 ∷ 3 ∷ 0xff ∷ 1 ∷ [])
+    2 4
     ∷ running 2 2 (2 ∷ 1 ∷ []) 101 (10 ∷ 20 ∷ []) (60 ∷ 40 ∷ 50 ∷ []) 40
     ∷ running 2 2 (2 ∷ 1 ∷ []) 7 (5 ∷ 6 ∷ []) (1 ∷ 2 ∷ 0 ∷ []) 2
     ∷ running 2 2 (2 ∷ 1 ∷ []) 0 (2 ^ 63 ∷ 1 ∷ []) (2 ∷ 1 ∷ (2 ^ 63 + 1) ∷ []) 1
     ∷ encoding 2 2 (3 ∷ 3 ∷ []) (2 ∷ 1 ∷ []) (0xc0 ∷ []) 3 ((4 ∷ 4 ∷ []) ∷ (3 ∷ 4 ∷ []) ∷ (3 ∷ 3 ∷ []) ∷ [])
     ∷ encoding 3 2 (1 ∷ 2 ∷ 3 ∷ []) (3 ∷ 2 ∷ 1 ∷ []) (0xb4 ∷ []) 3
-      ((2 ∷ 2 ∷ 4 ∷ []) ∷ (1 ∷ 2 ∷ 4 ∷ []) ∷ (1 ∷ 2 ∷ 3 ∷ []) ∷ (1 ∷ 3 ∷ 3 ∷ []) ∷ [])
+    ((2 ∷ 2 ∷ 4 ∷ []) ∷ (1 ∷ 2 ∷ 4 ∷ []) ∷ (1 ∷ 2 ∷ 3 ∷ []) ∷ (1 ∷ 3 ∷ 3 ∷ []) ∷ [])
     ∷ encoding 2 7 (73 ∷ 59 ∷ []) (1 ∷ 2 ∷ []) (0x72 ∷ 0xd8 ∷ []) 3 ((74 ∷ 60 ∷ []) ∷ (73 ∷ 60 ∷ []) ∷ (73 ∷ 59 ∷ []) ∷ [])
     ∷ listing 2 7 (73 ∷ 59 ∷ [])
-      ((0 ∷ 1 ∷ []) ∷ (1 ∷ 1 ∷ []) ∷ (0 ∷ 0 ∷ []) ∷ (1 ∷ 0 ∷ []) ∷ (1 ∷ 1 ∷ []) ∷ (0 ∷ 1 ∷ []) ∷ (1 ∷ 0 ∷ []) ∷ [])
-      (0x49 ∷ 0x3b ∷ [])
+    ((0 ∷ 1 ∷ []) ∷ (1 ∷ 1 ∷ []) ∷ (0 ∷ 0 ∷ []) ∷ (1 ∷ 0 ∷ []) ∷ (1 ∷ 1 ∷ []) ∷ (0 ∷ 1 ∷ []) ∷ (1 ∷ 0 ∷ []) ∷ [])
+    (0x49 ∷ 0x3b ∷ [])
     ∷ stepping
-      ((2 ∷ 4 ∷ 2 ∷ 2 ∷ []) ∷ (2 ∷ 4 ∷ 2 ∷ 3 ∷ []) ∷ (3 ∷ 4 ∷ 2 ∷ 3 ∷ []) ∷ (3 ∷ 3 ∷ 2 ∷ 3 ∷ []) ∷ (3 ∷ 3 ∷ 3 ∷ 3 ∷ []) ∷ [])
-      (1 ∷ 0 ∷ 0 ∷ 1 ∷ [])
-      ((6 ∷ 8 ∷ 4 ∷ 6 ∷ []) ∷ (5 ∷ 8 ∷ 4 ∷ 6 ∷ []) ∷ (5 ∷ 7 ∷ 4 ∷ 6 ∷ []) ∷ (5 ∷ 7 ∷ 5 ∷ 6 ∷ []) ∷ (5 ∷ 7 ∷ 5 ∷ 5 ∷ []) ∷ [])
+    ((2 ∷ 4 ∷ 2 ∷ 2 ∷ []) ∷ (2 ∷ 4 ∷ 2 ∷ 3 ∷ []) ∷ (3 ∷ 4 ∷ 2 ∷ 3 ∷ []) ∷ (3 ∷ 3 ∷ 2 ∷ 3 ∷ []) ∷ (3 ∷ 3 ∷ 3 ∷ 3 ∷ []) ∷ [])
+    (1 ∷ 0 ∷ 0 ∷ 1 ∷ [])
+    ((6 ∷ 8 ∷ 4 ∷ 6 ∷ []) ∷ (5 ∷ 8 ∷ 4 ∷ 6 ∷ []) ∷ (5 ∷ 7 ∷ 4 ∷ 6 ∷ []) ∷ (5 ∷ 7 ∷ 5 ∷ 6 ∷ []) ∷ (5 ∷ 7 ∷ 5 ∷ 5 ∷ []) ∷ [])
     ∷ []
 
 pub cases-hold : AllHold cases
 unfolding tabulate joined same count ones odds bitAt byteOf bytesFor packBits addRows doubleRow bump rowsFrom startMatrix pairsFrom additions step orderFrom stepOrder matrixAfter orderAfter startOrder stepBits matrixIn orderIn lastMatrix endOrder answerRow scalarBit xor dealt deal picked passed rearrange orderToGo encodedStart encodedBits encodeWith houseOrder encode difference operations entryOf block blockIn entriesIn signedByte entryBytes traceBytes doublings additionCount stepRegisters registersAfter modulus sumOf combination timesSigned signedSum plainRule differenceRule startFrom startRegisters plainRegisters differenceRegisters answerRegister flatten
-cases-hold =
-    ((refl, refl, refl), ((refl, refl, refl), ((refl, refl, refl), ((refl, refl, refl), ((refl, refl, refl),
-    ((refl, refl, refl), ((refl, refl, refl), ((refl, refl, refl), ((refl, refl, refl), ((refl, refl, refl),
-    ((refl, refl, refl), ((refl, refl, refl), ((refl, refl), (refl, tt))))))))))))))
+cases-hold = (
+  (refl, refl, refl),
+  (
+    (refl, refl, refl),
+    (
+      (refl, refl, refl),
+      (
+        (refl, refl, refl),
+        (
+          (refl, refl, refl),
+          (
+            (refl, refl, refl),
+            (
+              (refl, refl, refl),
+              (
+                (refl, refl, refl),
+                (
+                  (refl, refl, refl),
+                  (
+                    (refl, refl, refl),
+                    ((refl, refl, refl), ((refl, refl, refl), ((refl, refl), (refl, tt)))),
+                  ),
+                ),
+              ),
+            ),
+          ),
+        ),
+      ),
+    ),
+  ),
+)

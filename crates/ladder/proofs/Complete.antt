@@ -2,11 +2,10 @@
 -- orders, signs, trace, answer and registers. The filling bits are not looked at.
 -- Assumes nothing.
 use Prim.Native.Nat.{ℕ, zero, suc, pred, _+_, _*_, _≤_, _<_}
-use mathlib.Core.Path.{_≡_, refl, sym, ap, ap₂, _∙_}
+use mathlib.Core.Path.{_≡_, refl, ap, ap₂, _∙_}
 use mathlib.Core.List.{List, map}
 use native.Mathlib.Omega.{arith}
 use lib.Arith.{digits-lt}
-use lib.ListN.{getD}
 use Rattle.ladder.specs.Lists.{tabulate, joined}
 use Rattle.ladder.specs.Numbers.{bitAt}
 use Rattle.ladder.specs.Matrix.{row, matrixAfter, orderAfter, signsAfter}
@@ -32,8 +31,8 @@ registers-same rule d S r q regs zero e = refl
 registers-same rule d S r q regs (suc n) e =
     let before : (s : ℕ) → s < n → r s ≡ q s = λ s h. e s (omega arith) in
     ap₂ (λ f b. f b)
-      (ap₂ (λ B g. stepRegisters rule d B g) (matrix-same d S r q n before) (registers-same rule d S r q regs n before))
-      (e n (omega arith))
+    (ap₂ (λ B g. stepRegisters rule d B g) (matrix-same d S r q n before) (registers-same rule d S r q regs n before))
+    (e n (omega arith))
 
 module _ (p q : Plan) (e : SamePlan p q) where
   pub same-start : startOrder p ≡ startOrder q
@@ -44,7 +43,7 @@ module _ (p q : Plan) (e : SamePlan p q) where
   unfolding stepBits
   same-bits s h =
       tabulate-same (p .d) (λ k. bitAt (p .bits) (s * p .d + k)) (λ k. bitAt (q .bits) (s * p .d + k))
-        (λ k l. e .bits (s * p .d + k) (digits-lt h l))
+      (λ k l. e .bits (s * p .d + k) (digits-lt h l))
       ∙ ap (λ d. tabulate d (λ k. bitAt (q .bits) (s * d + k))) (e .d)
 
   before : (n : ℕ) → n ≤ p .l → (s : ℕ) → s < n → stepBits p s ≡ stepBits q s
@@ -80,7 +79,7 @@ module _ (p q : Plan) (e : SamePlan p q) where
   unfolding entriesIn blockIn
   same-trace =
       joined-same (p .l) (blockIn p) (blockIn q)
-        (λ s h. ap₂ (λ f r. f r) (ap₂ block (e .d) (same-matrix s (omega arith))) (same-bits s h))
+      (λ s h. ap₂ (λ f r. f r) (ap₂ block (e .d) (same-matrix s (omega arith))) (same-bits s h))
       ∙ ap (λ l. joined l (blockIn q)) (e .l)
 
   same-registers : {A : Type 0} (rule : Rule A) (regs : List ℕ → List A) (n : ℕ) → n ≤ p .l

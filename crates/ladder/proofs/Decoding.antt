@@ -2,14 +2,14 @@
 -- the lower of a column's two numbers, and the place in the last order says which of the two stands in the row.
 -- Assumes nothing.
 use Prim.Native.Nat.{ℕ, zero, suc, _+_, _*_, _%_, _≤_, _<_}
-use mathlib.Core.Path.{_≡_, sym, ap, ap₂, subst, _∙_}
-use mathlib.Core.Logic.{_⊎_, inl, inr, ⊎-elim}
+use mathlib.Core.Path.{_≡_, sym, ap, subst, _∙_}
+use mathlib.Core.Logic.{⊎-elim}
 use mathlib.Core.List.{List}
 use native.Mathlib.Omega.{arith}
 use lib.IntN.{ℤ, pos, negsuc}
 use lib.ListN.{length, getD, take}
 use Rattle.ladder.specs.Lists.{count}
-use Rattle.ladder.specs.Matrix.{entry, Arrangement, signOf, matrixAfter, orderAfter, signsAfter}
+use Rattle.ladder.specs.Matrix.{entry, Arrangement, matrixAfter, orderAfter, signsAfter}
 use Rattle.ladder.proofs.Order.{place-of}
 use Rattle.ladder.proofs.State.{getD-signsOf}
 use Rattle.ladder.proofs.Ladder.{lower, state-after, stairs-after, signs-after, lower-after, lower-after-zero, sign-by-lower, entry-by-order}
@@ -37,9 +37,9 @@ module _ {d : ℕ} {S : List ℕ} (a : Arrangement d S) (r : ℕ → List ℕ) (
       ap (λ s. digit (getD s j (pos 0))) (sym (signs-after a r long n))
       ∙ ap digit (getD-signsOf d (matrixAfter d S r n) j h)
       ∙ ⊎-elim
-        (λ p. ap digit (p .0) ∙ sym (p .1))
-        (λ p. ap digit (p .0) ∙ sym (p .1))
-        (sign-by-lower (stairs-after a r long n) j h)
+      (λ p. ap digit (p .0) ∙ sym (p .1))
+      (λ p. ap digit (p .0) ∙ sym (p .1))
+      (sign-by-lower (stairs-after a r long n) j h)
 
   -- The walk's number is the lower of the column's two.
   pub walked-is-lower : (n j : ℕ) → j < d → walked d S r n j ≡ lower d (matrixAfter d S r n) j
@@ -48,9 +48,9 @@ module _ {d : ℕ} {S : List ℕ} (a : Arrangement d S) (r : ℕ → List ℕ) (
   walked-is-lower (suc n) j h =
       let p = place-of (state-after a r long (suc n) .order) j h in
       let next = subst
-            (λ c. lower d (matrixAfter d S r (suc n)) c
-            ≡ 2 * lower d (matrixAfter d S r n) c + (lower d (matrixAfter d S r n) c + getD (r n) (p .0) 0) % 2)
-            (p .2) (lower-after a r long n (p .0) (p .1) (small n (p .0))) in
+      (λ c. lower d (matrixAfter d S r (suc n)) c
+      ≡ 2 * lower d (matrixAfter d S r n) c + (lower d (matrixAfter d S r n) c + getD (r n) (p .0) 0) % 2)
+      (p .2) (lower-after a r long n (p .0) (p .1) (small n (p .0))) in
       omega (arith, next, walked-is-lower n j h, digit-is (suc n) j h)
 
   -- What the walk yields is the entry of the row.

@@ -1,22 +1,21 @@
 -- Demand 2: from scalars comes a plan whose answer row is the scalars; the plan that a matrix sequence has is the encoding of what
 -- it ends in, and no other; evaluating a plan gives the same combination as its answer row.
 -- Assumes nothing.
-use Prim.Native.Nat.{ℕ, zero, suc, pred, _+_, _-_, _*_, _%_, _^_, _≤_, _<_}
-use mathlib.Core.Path.{_≡_, refl, sym, ap, ap₂, subst, _∙_}
-use mathlib.Core.List.{List, [], _∷_, map}
-use native.Mathlib.Nat.{lt-of-lt-of-le, le-of-lt}
+use Prim.Native.Nat.{ℕ, suc, pred, _+_, _-_, _*_, _%_, _^_, _≤_, _<_}
+use mathlib.Core.Path.{_≡_, sym, ap, subst, _∙_}
+use mathlib.Core.List.{List, [], map}
 use native.Mathlib.Omega.{arith}
 use lib.ListN.{length, getD}
-use Rattle.ladder.specs.Lists.{tabulate, joined, odds}
-use Rattle.ladder.specs.Numbers.{numberOf, wordsOf, bitAt, bytesFor, packBits, bitsLength, valueWords}
-use Rattle.ladder.specs.Matrix.{Row, Matrix, row, entry, Arrangement, matrixAfter, orderAfter}
-use Rattle.ladder.specs.Plan.{Plan, startOrder, stepBits, matrixIn, orderIn, signsIn, lastMatrix, endOrder, answerRow}
-use Rattle.ladder.specs.Encoding.{encodedStart, encodedBits, encodeWith, houseOrder, encode}
+use Rattle.ladder.specs.Lists.{odds}
+use Rattle.ladder.specs.Numbers.{numbersOf, wordsOfAll, bitAt, packBits, bitsLength, valueWords}
+use Rattle.ladder.specs.Matrix.{row, entry, Arrangement, matrixAfter, orderAfter}
+use Rattle.ladder.specs.Plan.{Plan, startOrder, stepBits, matrixIn, orderIn, lastMatrix, endOrder, answerRow, valuesIn}
+use Rattle.ladder.specs.Encoding.{encodedStart, encodedBits, encodeWith, encode}
 use Rattle.ladder.specs.Registers.{combination, modulus, plainRegisters, differenceRegisters, answerRegister}
-use Rattle.ladder.proofs.Lists.{getD-map, odds-le}
-use Rattle.ladder.proofs.Numbers.{numberOf-wordsOf, value-fits}
-use Rattle.ladder.proofs.Bits.{bitAt-packBits, step-of-packed, joined-below, length-stepBits, stepBits-below, length-packBits}
-use Rattle.ladder.proofs.Ladder.{lower, matrix-same, order-same, state-after}
+use Rattle.ladder.proofs.Lists.{getD-map, joined-same, odds-le}
+use Rattle.ladder.proofs.Numbers.{numbersOf-wordsOfAll, value-fits}
+use Rattle.ladder.proofs.Bits.{step-of-packed, pack-bits-of, bits-in-order, length-stepBits, stepBits-below}
+use Rattle.ladder.proofs.Ladder.{matrix-same, order-same, state-after}
 use Rattle.ladder.proofs.Encoding.{start-arranged, length-encodedBits, encodedBits-below, encoded-first-row, encoded-last-row, encoded-end, OddFirst, encoded-answer, house-arrangement, house-odd-first, neighbours, start-back, bits-back}
 use Rattle.ladder.proofs.Decoding.{walked, walkedEntry, entry-by-walk}
 use Rattle.ladder.proofs.Registers.{plain-registers}
@@ -71,14 +70,15 @@ module _ {d : ℕ} (l : ℕ) (ks : List ℕ) {E : List ℕ} (a : Arrangement d E
   pub encoded-accepted : length ks ≡ d → 1 ≤ d → d ≤ 8 → 1 ≤ l → l ≤ 576 → Accepted (encodeWith d l ks E)
   unfolding encodeWith
   encoded-accepted wide h₁ h₂ h₃ h₄ = record {
-      dLow = h₁;
-      dHigh = h₂;
-      lLow = h₃;
-      lHigh = h₄;
-      start = subst (Arrangement d) (sym encoded-start-order) (start-arranged l ks a);
-      columns = ap (map suc) (sym encoded-start-order);
-      answerLow = omega arith;
-      answerHigh = omega (arith, odds-le ks) }
+    dLow = h₁;
+    dHigh = h₂;
+    lLow = h₃;
+    lHigh = h₄;
+    start = subst (Arrangement d) (sym encoded-start-order) (start-arranged l ks a);
+    columns = ap (map suc) (sym encoded-start-order);
+    answerLow = omega arith;
+    answerHigh = omega (arith, odds-le ks);
+  }
 
 -- Decoding what was encoded with the house order gives the scalars.
 pub decode-encode : (d l : ℕ) (ks : List ℕ) → length ks ≡ d → ((j : ℕ) → j < d → getD ks j 0 < 2 ^ l)
@@ -93,7 +93,7 @@ module _ (p : Plan) (ok : Accepted p) where
   answer-place : pred (p .answer) ≤ p .d
   answer-place = omega (arith, ok .answerHigh)
 
-  -- The answer row has d entries of at most 2^l, so floor(l / 64) + 1 words hold each.
+  -- The answer row has d entries of at most 2^l ..
   pub answer-wide : length (answerRow p) ≡ p .d
   unfolding answerRow lastMatrix
   answer-wide = state-in p ok (p .l) .wide (pred (p .answer)) answer-place
@@ -102,9 +102,12 @@ module _ (p : Plan) (ok : Accepted p) where
   unfolding answerRow lastMatrix
   answer-bound j = bound-in p ok (p .l) (pred (p .answer)) j answer-place
 
-  pub answer-words : (j : ℕ) → numberOf (wordsOf (valueWords (p .l)) (getD (answerRow p) j 0)) ≡ getD (answerRow p) j 0
-  answer-words j =
-      numberOf-wordsOf (valueWords (p .l)) (getD (answerRow p) j 0) (value-fits (p .l) (getD (answerRow p) j 0) (answer-bound j))
+  -- .. so floor(l / 64) + 1 words hold each: the words that decoding writes are the answer row.
+  pub decode-words : numbersOf (p .d) (valueWords (p .l)) (valuesIn p) ≡ answerRow p
+  unfolding valuesIn
+  decode-words =
+      ap (λ n. numbersOf n (valueWords (p .l)) (wordsOfAll (valueWords (p .l)) (answerRow p))) (sym answer-wide)
+      ∙ numbersOf-wordsOfAll (valueWords (p .l)) (answerRow p) (λ j. value-fits (p .l) (getD (answerRow p) j 0) (answer-bound j))
 
   -- What a walk of orders and signs alone yields is the answer row.
   pub answer-by-walk : (j : ℕ) → j < p .d
@@ -131,6 +134,18 @@ module _ (p : Plan) (ok : Accepted p) where
       encoded-step-bits (p .l) lowerNeighbours (state-after (ok .start) (stepBits p) (length-stepBits p) (p .l) .order) s h
       ∙ bits-back (p .l) (ok .start) (stepBits p) (length-stepBits p) (stepBits-below p) s h
 
+  -- Where the filling bits are 0, it gives back the very bytes.
+  pub the-bytes : length (p .bits) ≡ bitsLength (p .d) (p .l) → ((i : ℕ) → getD (p .bits) i 0 < 256)
+      → ((i : ℕ) → p .l * p .d ≤ i → bitAt (p .bits) i ≡ 0)
+      → encodeWith (p .d) (p .l) lowerNeighbours (endOrder p) .bits ≡ p .bits
+  unfolding encodeWith endOrder orderIn bitsLength stepBits
+  the-bytes long bytes filling =
+      ap packBits
+      (joined-same (p .l) (encodedBits (p .l) lowerNeighbours (orderAfter (startOrder p) (stepBits p) (p .l))) (stepBits p)
+      (bits-back (p .l) (ok .start) (stepBits p) (length-stepBits p) (stepBits-below p))
+      ∙ bits-in-order (p .bits) (p .d) (p .l))
+      ∙ pack-bits-of (p .bits) (p .l * p .d) bytes long filling
+
   -- ---- what is evaluated
 
   -- After each step the registers are the rows' combinations by the modulus.
@@ -144,7 +159,7 @@ module _ (p : Plan) (ok : Accepted p) where
   answer-register m es =
       ap (λ q. getD q (pred (p .answer)) 0) (registers-in m es (p .l))
       ∙ getD-map (combination m es) (matrixIn p (p .l)) (pred (p .answer)) [] 0
-        (omega (arith, state-in p ok (p .l) .rows, answer-place))
+      (omega (arith, state-in p ok (p .l) .rows, answer-place))
 
   -- So is the difference run's.
   pub answer-register-difference : (m : ℕ) (es : List ℕ) → ((j : ℕ) → getD es j 0 ≤ modulus m)

@@ -2,25 +2,26 @@
 -- rows of an addition differ by a vector of -1, 0, 1 that is not all zero, and the trace records the true one; the difference
 -- run ends in the plain run's registers.
 -- Assumes nothing.
-use Prim.Native.Nat.{ℕ, zero, suc, _+_, _*_, _^_, _≤_, _<_}
+use Prim.Native.Nat.{ℕ, suc, _^_, _≤_, _<_}
 use mathlib.Core.Path.{_≡_, refl, sym, ap, ap₂, subst, _∙_}
-use mathlib.Core.List.{List, [], _∷_, map}
+use mathlib.Core.List.{List, []}
 use native.Mathlib.Omega.{arith}
-use lib.IntN.{ℤ, pos}
+use lib.IntN.{pos}
 use lib.ListN.{length, getD, length-map}
 use Rattle.ladder.specs.Lists.{ones}
 use Rattle.ladder.specs.Matrix.{Row, Matrix, row, entry, addRows, doubleRow, StateMatrix, signsOf, Pair, additions, step, matrixAfter}
-use Rattle.ladder.specs.Plan.{Plan, startOrder, stepBits, matrixIn, orderIn, signsIn}
+use Rattle.ladder.specs.Plan.{Plan, stepBits, matrixIn, orderIn, signsIn}
 use Rattle.ladder.specs.Trace.{difference, Entry, operations, entryOf, block, blockIn}
 use Rattle.ladder.specs.Registers.{modulus, plainRegisters, differenceRegisters}
+use Rattle.ladder.specs.Refusals.{runRefusal}
 use Rattle.ladder.proofs.Lists.{getD-map, ones-le}
-use Rattle.ladder.proofs.Step.{rowX, rowY, rowY-inside, length-additions, additions-x, additions-y, row-step-suc}
-use Rattle.ladder.proofs.State.{Stairs, stairs}
+use Rattle.ladder.proofs.Step.{rowY-inside, length-additions, additions-x, additions-y, row-step-suc}
+use Rattle.ladder.proofs.State.{stairs}
 use Rattle.ladder.proofs.Ladder.{state-after, signs-after, entry-bound}
 use Rattle.ladder.proofs.Bits.{length-stepBits, stepBits-below}
-use Rattle.ladder.proofs.Trace.{IsUnit, IsSmall, vector-small, vector-not-zero, rows-apart, difference-at, length-difference, sub-le}
+use Rattle.ladder.proofs.Trace.{IsUnit, IsSmall, vector-small, vector-not-zero, rows-apart, difference-at, sub-le}
 use Rattle.ladder.proofs.Registers.{runs-agree}
-use Rattle.ladder.proofs.Refusals.{Accepted}
+use Rattle.ladder.proofs.Refusals.{Accepted, run-accepted}
 
 -- What an addition of a step from matrix B is: two rows, the first above the second, whose sum is the new row; the vector is the
 -- second minus the first, of coefficients -1, 0 and 1 that are not all zero.
@@ -51,23 +52,25 @@ module _ {d : ℕ} {B : Matrix} {S : List ℕ} (M : StateMatrix d B S) (r : List
   pub block-doubles : Doubles d B (row (step B r) 0) (getD (block d B r) 0 noEntry)
   unfolding block operations entryOf step noEntry
   block-doubles = record {
-      one-row = refl;
-      inside = omega (arith, ones-le r);
-      twice = refl;
-      zeros = λ j h.
+    one-row = refl;
+    inside = omega (arith, ones-le r);
+    twice = refl;
+    zeros = λ j h.
         difference-at d (row B (ones r)) (row B (ones r)) j h
-        ∙ sub-le (entry B (ones r) j) (entry B (ones r) j) (omega arith) ∙ ap pos (omega arith) }
+        ∙ sub-le (entry B (ones r) j) (entry B (ones r) j) (omega arith) ∙ ap pos (omega arith);
+  }
 
   pair-adds : (p : Pair) (new : Row) → p .x < p .y → p .y ≤ d → new ≡ addRows (row B (p .x)) (row B (p .y))
       → Adds d B new (entryOf d B p)
   unfolding entryOf
   pair-adds p new h l e = record {
-      apart = h;
-      inside = l;
-      sum = e;
-      true-vector = refl;
-      small = vector-small (stairs M) (p .x) (p .y) (omega arith) l;
-      not-zero = vector-not-zero (stairs M) (p .x) (p .y) (omega arith) l h }
+    apart = h;
+    inside = l;
+    sum = e;
+    true-vector = refl;
+    small = vector-small (stairs M) (p .x) (p .y) (omega arith) l;
+    not-zero = vector-not-zero (stairs M) (p .x) (p .y) (omega arith) l h;
+  }
 
   -- .. and each other one is an addition.
   pub block-adds : (i : ℕ) → i < d → Adds d B (row (step B r) (suc i)) (getD (block d B r) (suc i) noEntry)
@@ -78,11 +81,11 @@ module _ {d : ℕ} {B : Matrix} {S : List ℕ} (M : StateMatrix d B S) (r : List
       let ex = additions-x r i noPair b in
       let ey = additions-y r i noPair b in
       subst (Adds d B (row (step B r) (suc i)))
-        (sym (getD-map (entryOf d B) (additions r) i noPair noEntry (omega (arith, length-additions r))))
-        (pair-adds p (row (step B r) (suc i))
-          (omega (arith, ex, ey, rows-apart r i b))
-          (omega (arith, ey, rowY-inside r (suc i) b))
-          (row-step-suc B r i b ∙ ap₂ (λ x y. addRows (row B x) (row B y)) (sym ex) (sym ey)))
+      (sym (getD-map (entryOf d B) (additions r) i noPair noEntry (omega (arith, length-additions r))))
+      (pair-adds p (row (step B r) (suc i))
+      (omega (arith, ex, ey, rows-apart r i b))
+      (omega (arith, ey, rowY-inside r (suc i) b))
+      (row-step-suc B r i b ∙ ap₂ (λ x y. addRows (row B x) (row B y)) (sym ex) (sym ey)))
 
   -- There are d+1 of them.
   pub length-block : length (block d B r) ≡ suc d
@@ -127,3 +130,10 @@ module _ (p : Plan) (ok : Accepted p) where
       → differenceRegisters p m es n ≡ plainRegisters p m es n
   unfolding differenceRegisters plainRegisters
   runs-in m es fits n = runs-agree m es (ok .start) (stepBits p) (length-stepBits p) fits n
+
+-- So it is for every run that is not refused; elements are words.
+pub runs-agree-accepted : (p : Plan) (m : ℕ) (es regs : List ℕ) → runRefusal p m es regs ≡ 0 → ((j : ℕ) → getD es j 0 < 2 ^ 64)
+    → (n : ℕ) → differenceRegisters p m es n ≡ plainRegisters p m es n
+runs-agree-accepted p m es regs e words n =
+    let ok = run-accepted p m es regs e in
+    runs-in p (ok .0) m es (ok .1 words) n

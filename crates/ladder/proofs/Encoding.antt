@@ -12,7 +12,7 @@ use lib.ListN.{length, getD, take, length-map, length-append, List·getD-append,
 use lib.Pow.{shr-shr}
 use lib.Seq.{ext-getD, getD-append-add}
 use Rattle.ladder.specs.Lists.{tabulate, count, odds}
-use Rattle.ladder.specs.Matrix.{Matrix, row, entry, Arrangement, StateMatrix, stepOrder, matrixAfter, orderAfter}
+use Rattle.ladder.specs.Matrix.{Matrix, row, entry, Arrangement, stepOrder, matrixAfter, orderAfter}
 use Rattle.ladder.specs.Encoding.{scalarBit, xor, dealt, deal, picked, passed, rearrange, orderToGo, encodedStart, encodedBits, houseOrder}
 use Rattle.ladder.proofs.Lists.{length-tabulate, getD-tabulate, getD-map, count-append}
 use Rattle.ladder.proofs.Order.{place-of, arrangement-by-counts, rising-arrangement, count-picked, length-picked, length-passed, arrangement-rearrange, stepOrder-rearrange, rearrange-stepOrder}
@@ -89,7 +89,7 @@ module _ {d : ℕ} (l : ℕ) (ks : List ℕ) {E : List ℕ} (a : Arrangement d E
       let before : l - s ≡ suc (l - suc s) = omega arith in
       let here : l - suc (l - suc s) ≡ s = omega arith in
       ap (λ T. stepOrder T (deal l ks U s))
-        (encoded-order s (omega arith) ∙ ap (orderToGo l ks E) before ∙ ap (λ t. rearrange U (deal l ks U t)) here)
+      (encoded-order s (omega arith) ∙ ap (orderToGo l ks E) before ∙ ap (λ t. rearrange U (deal l ks U t)) here)
       ∙ stepOrder-rearrange U (deal l ks U s) (sym (length-deal l ks U s))
 
   abbrev encodedMatrix : ℕ → Matrix
@@ -109,14 +109,14 @@ module _ {d : ℕ} (l : ℕ) (ks : List ℕ) {E : List ℕ} (a : Arrangement d E
       let p = place-of (order-to-go (l - suc s)) j b in
       let at = encoded-order (suc s) h in
       next (getD ks j 0 / 2 ^ (l - suc s)) (getD (encodedBits l ks E s) (p .0) 0)
-        (lower d (encodedMatrix s) j) (lower d (encodedMatrix (suc s)) j)
-        (encoded-lower fits s (omega arith) j b ∙ half l (getD ks j 0) s h)
-        (bit (p .0) (p .1) (p .2))
-        (subst
-          (λ c. lower d (encodedMatrix (suc s)) c
-          ≡ 2 * lower d (encodedMatrix s) c + (lower d (encodedMatrix s) c + getD (encodedBits l ks E s) (p .0) 0) % 2)
-          (ap (λ U. getD U (p .0) 0) at ∙ p .2)
-          (lower-after start-arranged (encodedBits l ks E) length-encodedBits s (p .0) (p .1) (encodedBits-below s (p .0))))
+      (lower d (encodedMatrix s) j) (lower d (encodedMatrix (suc s)) j)
+      (encoded-lower fits s (omega arith) j b ∙ half l (getD ks j 0) s h)
+      (bit (p .0) (p .1) (p .2))
+      (subst
+      (λ c. lower d (encodedMatrix (suc s)) c
+      ≡ 2 * lower d (encodedMatrix s) c + (lower d (encodedMatrix s) c + getD (encodedBits l ks E s) (p .0) 0) % 2)
+      (ap (λ U. getD U (p .0) 0) at ∙ p .2)
+      (lower-after start-arranged (encodedBits l ks E) length-encodedBits s (p .0) (p .1) (encodedBits-below s (p .0))))
     where
       bit : (k : ℕ) → k < d → getD (orderToGo l ks E (l - suc s)) k 0 ≡ j
           → getD (encodedBits l ks E s) k 0 ≡ (getD ks j 0 / 2 ^ (l - suc s) % 2 + getD ks j 0 / 2 ^ (l - suc s) / 2 % 2) % 2
@@ -125,6 +125,7 @@ module _ {d : ℕ} (l : ℕ) (ks : List ℕ) {E : List ℕ} (a : Arrangement d E
           ∙ ap (λ c. dealt l (getD ks c 0) s) e
           ∙ dealt-is l (getD ks j 0) s (fits j b)
           ∙ ap (λ m. (getD ks j 0 / 2 ^ (l - suc s) % 2 + m % 2) % 2) (half l (getD ks j 0) s h)
+
       next : (q t m m' : ℕ) → m ≡ q / 2 → t ≡ (q % 2 + q / 2 % 2) % 2 → m' ≡ 2 * m + (m + t) % 2 → m' ≡ q
       next q t m m' e f g =
           let same-parity : (m + t) % 2 ≡ q % 2 = rw (e, f) (omega arith) in omega arith
@@ -157,8 +158,8 @@ module _ {d : ℕ} (l : ℕ) (ks : List ℕ) {E : List ℕ} (a : Arrangement d E
   encoded-last-row fits j h =
       let p = place-of a j h in
       let c : count j (take d E) ≡ 1 =
-            subst (λ i. count i (take d E) ≡ 1) (p .2)
-              (count-after E (p .0) d (omega (arith, p .1, a .long)) (ap (λ i. count i E) (p .2) ∙ a .once j h) (p .1)) in
+      subst (λ i. count i (take d E) ≡ 1) (p .2)
+      (count-after E (p .0) d (omega (arith, p .1, a .long)) (ap (λ i. count i E) (p .2) ∙ a .once j h) (p .1)) in
       encoded-entry fits d j (omega arith) h
       ∙ ap (λ n. getD ks j 0 + (getD ks j 0 + n) % 2) c
       ∙ ap (λ n. getD ks j 0 + n) (other (getD ks j 0))
@@ -198,13 +199,16 @@ border d ks E f (suc n) h ev =
         at : (k : ℕ) → n ≤ k → k < d → Dec (k ≡ n) → getD ks (getD E k 0) 0 % 2 ≡ 0
         at k q b (yes g) = ap (λ c. getD ks (getD E c 0) 0 % 2) g ∙ e
         at k q b (no g) = ev k (omega arith) b
-    go (no e) further =
-        (suc n, record {
-          inside = h;
-          oddly = λ k q.
+    go (no e) further = (
+      suc n,
+      record {
+        inside = h;
+        oddly = λ k q.
             parity (getD ks (getD E k 0) 0)
-              (λ z. absurd (late k q z));
-          evenly = ev })
+            (λ z. absurd (late k q z));
+        evenly = ev;
+      },
+    )
       where
         late : (k : ℕ) → k < suc n → getD ks (getD E k 0) 0 % 2 ≡ 0 → ⊥
         late k q z =
@@ -216,21 +220,27 @@ module _ {d : ℕ} (l : ℕ) (ks : List ℕ) {E : List ℕ} (a : Arrangement d E
   row-at-border i b =
       let M = state-after (start-arranged l ks a) (encodedBits l ks E) (length-encodedBits l ks a) l in
       ext-getD 0 (row (encodedMatrix l ks a l) i) ks (M .wide i (b .inside) ∙ sym wide)
-        (λ j h.
-          let q : j < d = omega (arith, M .wide i (b .inside)) in
-          let p = place-of a j q in
-          subst (λ c. entry (encodedMatrix l ks a l) i c ≡ getD ks c 0) (p .2)
-            (encoded-entry l ks a fits i (getD E (p .0) 0) (b .inside) (a .inside (p .0) (p .1))
-            ∙ at (p .0) (p .1) (decLe (suc (p .0)) i)))
+      (λ j h.
+      let q : j < d = omega (arith, M .wide i (b .inside)) in
+      let p = place-of a j q in
+      subst (λ c. entry (encodedMatrix l ks a l) i c ≡ getD ks c 0) (p .2)
+      (encoded-entry l ks a fits i (getD E (p .0) 0) (b .inside) (a .inside (p .0) (p .1))
+      ∙ at (p .0) (p .1) (decLe (suc (p .0)) i)))
     where
       at : (k : ℕ) → k < d → Dec (k < i)
           → getD ks (getD E k 0) 0 + (getD ks (getD E k 0) 0 + count (getD E k 0) (take i E)) % 2 ≡ getD ks (getD E k 0) 0
       at k q (yes g) =
-          omega (arith, b .oddly k g,
-            count-after E k i (omega (arith, a .long)) (a .once (getD E k 0) (a .inside k q)) g)
+          omega (
+            arith,
+            b .oddly k g,
+            count-after E k i (omega (arith, a .long)) (a .once (getD E k 0) (a .inside k q)) g,
+          )
       at k q (no g) =
-          omega (arith, b .evenly k (omega arith) q,
-            count-before E k i (omega (arith, a .long)) (a .once (getD E k 0) (a .inside k q)) (omega arith))
+          omega (
+            arith,
+            b .evenly k (omega arith) q,
+            count-before E k i (omega (arith, a .long)) (a .once (getD E k 0) (a .inside k q)) (omega arith),
+          )
 
   -- With every odd scalar's column before every even one's, the answer row is the scalars.
   pub encoded-answer : OddFirst d ks E → row (encodedMatrix l ks a l) (odds ks) ≡ ks
@@ -278,9 +288,14 @@ module _ (d : ℕ) (ks : List ℕ) (wide : length ks ≡ d) where
   unfolding houseOrder
   house-arrangement =
       arrangement-by-counts (rising-arrangement d) (picked rising parities ++ passed rising parities)
-        (omega (arith, length-append (picked rising parities) (passed rising parities), length-picked rising parities lengths,
-          length-passed rising parities lengths, length-map ks (λ n. n % 2)))
-        (λ j. count-append j (picked rising parities) (passed rising parities) ∙ count-picked j rising parities lengths)
+      (omega (
+        arith,
+        length-append (picked rising parities) (passed rising parities),
+        length-picked rising parities lengths,
+        length-passed rising parities lengths,
+        length-map ks (λ n. n % 2),
+      ))
+      (λ j. count-append j (picked rising parities) (passed rising parities) ∙ count-picked j rising parities lengths)
 
   parity-at : (m : ℕ) → m < length rising → getD parities m 0 ≡ getD ks (getD rising m 0) 0 % 2
   parity-at m h =
@@ -299,12 +314,12 @@ module _ (d : ℕ) (ks : List ℕ) (wide : length ks ≡ d) where
   then-even k h q =
       let i = k - length (picked rising parities) in
       let m = passed-from rising parities i
-            (omega (arith, length-picked rising parities lengths, length-passed rising parities lengths, length-map ks (λ n. n % 2))) in
+      (omega (arith, length-picked rising parities lengths, length-passed rising parities lengths, length-map ks (λ n. n % 2))) in
       let e : length (picked rising parities) + i ≡ k = omega arith in
       ap (λ c. getD ks c 0 % 2)
-        (ap (λ n. getD (picked rising parities ++ passed rising parities) n 0) (sym e)
-        ∙ getD-append-add (picked rising parities) (passed rising parities) i 0
-        ∙ m .2)
+      (ap (λ n. getD (picked rising parities ++ passed rising parities) n 0) (sym e)
+      ∙ getD-append-add (picked rising parities) (passed rising parities) i 0
+      ∙ m .2)
       ∙ sym (parity-at (m .0) (m .1)) ∙ m .3
 
   -- .. with every odd scalar's column before every even one's.
@@ -344,9 +359,9 @@ module _ {d : ℕ} (l : ℕ) {S : List ℕ} (a : Arrangement d S) (r : ℕ → L
       ≡ 2 * lower d (matrixAfter d S r n) j + (lower d (matrixAfter d S r n) j + getD (r n) k 0) % 2
   lower-of n k j h e =
       subst
-        (λ c. lower d (matrixAfter d S r (suc n)) c
-        ≡ 2 * lower d (matrixAfter d S r n) c + (lower d (matrixAfter d S r n) c + getD (r n) k 0) % 2)
-        e (lower-after a r long n k h (small n k))
+      (λ c. lower d (matrixAfter d S r (suc n)) c
+      ≡ 2 * lower d (matrixAfter d S r n) c + (lower d (matrixAfter d S r n) c + getD (r n) k 0) % 2)
+      e (lower-after a r long n k h (small n k))
 
   -- The lower number m steps before the end is the neighbour without its last m bits.
   lower-back : (m : ℕ) → m ≤ l → (j : ℕ) → j < d → lower d (matrixAfter d S r (l - m)) j ≡ getD neighbours j 0 / 2 ^ m
@@ -358,7 +373,7 @@ module _ {d : ℕ} (l : ℕ) {S : List ℕ} (a : Arrangement d S) (r : ℕ → L
       let p = place-of (arranged (suc s)) j b in
       let next = lower-of s (p .0) j (p .1) (p .2) in
       let here : lower d (matrixAfter d S r (suc s)) j ≡ getD neighbours j 0 / 2 ^ m =
-            ap (λ n. lower d (matrixAfter d S r n) j) (sym e) ∙ lower-back m (omega arith) j b in
+      ap (λ n. lower d (matrixAfter d S r n) j) (sym e) ∙ lower-back m (omega arith) j b in
       let power : m + 1 ≡ suc m = omega arith in
       omega (arith, next, here, shr-shr (getD neighbours j 0) m 1, ap (λ n. getD neighbours j 0 / 2 ^ n) power)
 
@@ -369,19 +384,20 @@ module _ {d : ℕ} (l : ℕ) {S : List ℕ} (a : Arrangement d S) (r : ℕ → L
   dealt-back : (s : ℕ) → s < l → deal l neighbours (orderAfter S r (suc s)) s ≡ r s
   dealt-back s h =
       ext-getD 0 (deal l neighbours (orderAfter S r (suc s)) s) (r s)
-        (length-deal l neighbours (orderAfter S r (suc s)) s ∙ arranged (suc s) .long ∙ sym (long s))
-        (λ k q.
-          let b : k < d =
-                omega (arith, length-deal l neighbours (orderAfter S r (suc s)) s, arranged (suc s) .long) in
-          let j = getD (orderAfter S r (suc s)) k 0 in
-          let inside = arranged (suc s) .inside k b in
-          deal-at l neighbours (orderAfter S r (suc s)) s k (omega (arith, arranged (suc s) .long))
-          ∙ dealt-is l (getD neighbours j 0) s (neighbours-fit j inside)
-          ∙ ap₂ (λ x y. (x % 2 + y % 2) % 2)
-            (sym (lower-back (l - suc s) (omega arith) j inside) ∙ ap (λ n. lower d (matrixAfter d S r n) j) (omega arith))
-            (sym (lower-back (l - s) (omega arith) j inside) ∙ ap (λ n. lower d (matrixAfter d S r n) j) (omega arith))
-          ∙ bit-back (lower d (matrixAfter d S r (suc s)) j) (lower d (matrixAfter d S r s) j) (getD (r s) k 0) (small s k)
-            (lower-of s k j b refl))
+      (length-deal l neighbours (orderAfter S r (suc s)) s ∙ arranged (suc s) .long ∙ sym (long s))
+      (λ k q.
+      let b : k < d =
+      omega (arith, length-deal l neighbours (orderAfter S r (suc s)) s, arranged (suc s) .long) in
+      let j = getD (orderAfter S r (suc s)) k 0 in
+      let inside = arranged (suc s) .inside k b in
+      deal-at l neighbours (orderAfter S r (suc s)) s k (omega (arith, arranged (suc s) .long))
+      ∙ dealt-is l (getD neighbours j 0) s (neighbours-fit j inside)
+      ∙ ap₂ (λ x y. (x % 2 + y % 2) % 2)
+      (sym (lower-back (l - suc s) (omega arith) j inside) ∙ ap (λ n. lower d (matrixAfter d S r n) j) (omega arith))
+      (sym (lower-back (l - s) (omega arith) j inside) ∙ ap (λ n. lower d (matrixAfter d S r n) j) (omega arith))
+      ∙ bit-back (lower d (matrixAfter d S r (suc s)) j) (lower d (matrixAfter d S r s) j) (getD (r s) k 0) (small s k)
+      (lower-of s k j b refl))
+
   orders-back : (m : ℕ) → m ≤ l → orderToGo l neighbours (orderAfter S r l) m ≡ orderAfter S r (l - m)
   unfolding orderToGo orderAfter
   orders-back zero h = ap (orderAfter S r) (sym (sub-zero l))

@@ -4,20 +4,19 @@
 -- Assumes nothing.
 use Prim.Native.Nat.{ℕ, zero, suc, _+_, _-_, _*_, _%_, _^_, _≤_, _<_, min}
 use mathlib.Core.Path.{_≡_, refl, sym, ap, ap₂, subst, _∙_}
-use mathlib.Core.Logic.{_≢_, _⊎_, inl, inr, ⊎-elim}
-use mathlib.Core.List.{List, [], _∷_, _++_}
-use native.Mathlib.Nat.{le-of-suc-le-suc, not-suc-le-zero, pow-suc, add-zero}
+use mathlib.Core.Logic.{_⊎_, inl, inr, ⊎-elim}
+use mathlib.Core.List.{List, [], _∷_}
+use native.Mathlib.Nat.{le-of-suc-le-suc, not-suc-le-zero, pow-suc}
 use native.Mathlib.Decide.{ℕ-discrete, decLe}
 use native.Mathlib.Omega.{arith}
-use lib.IntN.{ℤ, pos, negsuc}
+use lib.IntN.{pos, negsuc}
 use lib.ListN.{length, getD, take, drop, replicate, set, length-take, length-drop, length-replicate, getD-replicate, take-append-drop, length-set, List·getD-eq-default}
-use lib.Seq.{ext-getD, getD-set-same, getD-set-other, getD-take, getD-drop, length-take-le}
-use Rattle.ladder.specs.Lists.{tabulate, same, count, ones, odds}
+use lib.Seq.{ext-getD, getD-set-same, getD-set-other, getD-take, getD-drop}
+use Rattle.ladder.specs.Lists.{same, count}
 use Rattle.ladder.specs.Matrix.{Row, Matrix, row, entry, Arrangement, StateMatrix, signOf, signsOf, bump, rowsFrom, startMatrix, startSigns, step, stepOrder, stepSigns, matrixAfter, orderAfter, signsAfter}
-use Rattle.ladder.proofs.Lists.{same-is, same-self, count-append, count-at, length-tabulate}
-use Rattle.ladder.proofs.Step.{length-stepOrder}
-use Rattle.ladder.proofs.Order.{place-of, place-once}
-use Rattle.ladder.proofs.State.{Stair, Stairs, stairs, from-stairs, nextEven, stair-step, stairs-step, new-order, sign-up, sign-down, length-signsOf, getD-signsOf, step-state, step-signs}
+use Rattle.ladder.proofs.Lists.{same-is, same-self, count-append, count-at}
+use Rattle.ladder.proofs.Order.{place-of}
+use Rattle.ladder.proofs.State.{Stairs, stairs, from-stairs, nextEven, stair-step, new-order, sign-up, sign-down, length-signsOf, getD-signsOf, step-state, step-signs}
 
 -- ---- the start matrix
 
@@ -33,7 +32,7 @@ getD-bump u i j h = go (ℕ-discrete j i)
     go : Dec (j ≡ i) → getD (set u i (suc (getD u i 0))) j 0 ≡ getD u j 0 + same i j
     go (yes e) =
         subst (λ c. getD (set u c (suc (getD u c 0))) j 0 ≡ getD u j 0 + same c j) e
-          (getD-set-same u j (suc (getD u j 0)) 0 h ∙ omega (arith, same-self j))
+        (getD-set-same u j (suc (getD u j 0)) 0 h ∙ omega (arith, same-self j))
     go (no n) = getD-set-other u i j (suc (getD u i 0)) 0 n ∙ omega (arith, same-is i j)
 
 pub length-bump : (u : Row) (i : ℕ) → length (bump u i) ≡ length u
@@ -67,14 +66,22 @@ pub count-before : (S : List ℕ) (k i : ℕ) → k < length S → count (getD S
 count-before S k i h c l =
     let j = getD S k 0 in
     let further : getD (drop i S) (k - i) 0 ≡ j = getD-drop i S (k - i) 0 ∙ ap (λ n. getD S n 0) (omega arith) in
-    omega (arith, ap (count j) (take-append-drop i S), count-append j (take i S) (drop i S),
-      count-at j (drop i S) (k - i) (omega (arith, length-drop i S)) further)
+    omega (
+      arith,
+      ap (count j) (take-append-drop i S),
+      count-append j (take i S) (drop i S),
+      count-at j (drop i S) (k - i) (omega (arith, length-drop i S)) further,
+    )
 
 pub count-after : (S : List ℕ) (k i : ℕ) → k < length S → count (getD S k 0) S ≡ 1 → k < i → count (getD S k 0) (take i S) ≡ 1
 count-after S k i h c l =
     let j = getD S k 0 in
-    omega (arith, ap (count j) (take-append-drop i S), count-append j (take i S) (drop i S),
-      count-at j (take i S) k (omega (arith, length-take i S)) (getD-take i S k 0 l))
+    omega (
+      arith,
+      ap (count j) (take-append-drop i S),
+      count-append j (take i S) (drop i S),
+      count-at j (take i S) k (omega (arith, length-take i S)) (getD-take i S k 0 l),
+    )
 
 module _ {d : ℕ} {S : List ℕ} (a : Arrangement d S) where
   entry-start : (i j : ℕ) → j < d → i ≤ d → entry (startMatrix d S) i j ≡ count j (take i S)
@@ -96,24 +103,26 @@ module _ {d : ℕ} {S : List ℕ} (a : Arrangement d S) where
       let p = place-of a j h in
       entry-start d j h (omega arith)
       ∙ subst (λ c. count c (take d S) ≡ 1) (p .2)
-        (count-after S (p .0) d (omega (arith, p .1, a .long)) (ap (λ c. count c S) (p .2) ∙ a .once j h) (p .1))
+      (count-after S (p .0) d (omega (arith, p .1, a .long)) (ap (λ c. count c S) (p .2) ∙ a .once j h) (p .1))
 
   pub start-stairs : Stairs d (startMatrix d S) S
   unfolding startMatrix
   start-stairs = record {
-      rows = length-rowsFrom (replicate d zero) S ∙ ap suc (a .long);
-      wide = λ i h. wide-rowsFrom (replicate d zero) S i (omega (arith, a .long)) ∙ length-replicate d zero;
-      order = a;
-      stair = λ k h.
+    rows = length-rowsFrom (replicate d zero) S ∙ ap suc (a .long);
+    wide = λ i h. wide-rowsFrom (replicate d zero) S i (omega (arith, a .long)) ∙ length-replicate d zero;
+    order = a;
+    stair = λ k h.
         let j = getD S k 0 in
         let inside = a .inside k h in
         let here : k < length S = omega (arith, a .long) in
         record {
           upper = λ i l.
-            entry-start i j inside (omega arith) ∙ count-before S k i here (a .once j inside) l ∙ sym (first-row j);
-          lower = λ i l m. entry-start i j inside m ∙ count-after S k i here (a .once j inside) l ∙ sym (last-row j inside) };
-      even = λ j. ap (λ n. n % 2) (first-row j);
-      apart = λ j h. inl (last-row j h ∙ ap suc (sym (first-row j))) }
+              entry-start i j inside (omega arith) ∙ count-before S k i here (a .once j inside) l ∙ sym (first-row j);
+          lower = λ i l m. entry-start i j inside m ∙ count-after S k i here (a .once j inside) l ∙ sym (last-row j inside);
+        };
+    even = λ j. ap (λ n. n % 2) (first-row j);
+    apart = λ j h. inl (last-row j h ∙ ap suc (sym (first-row j)));
+  }
 
   -- The start matrix is a state matrix with the start order, and all its signs are +1.
   pub start-state : StateMatrix d (startMatrix d S) S
@@ -123,12 +132,12 @@ module _ {d : ℕ} {S : List ℕ} (a : Arrangement d S) where
   unfolding startSigns
   start-signs =
       ext-getD (pos 0) (signsOf d (startMatrix d S)) (replicate d (pos 1))
-        (length-signsOf d (startMatrix d S) ∙ sym (length-replicate d (pos 1)))
-        (λ j h.
-          let l : j < d = omega (arith, length-signsOf d (startMatrix d S)) in
-          getD-signsOf d (startMatrix d S) j l
-          ∙ sign-up (entry (startMatrix d S) 0 j) (entry (startMatrix d S) d j) (last-row j l ∙ ap suc (sym (first-row j)))
-          ∙ sym (getD-replicate d j (pos 1) (pos 0) l))
+      (length-signsOf d (startMatrix d S) ∙ sym (length-replicate d (pos 1)))
+      (λ j h.
+      let l : j < d = omega (arith, length-signsOf d (startMatrix d S)) in
+      getD-signsOf d (startMatrix d S) j l
+      ∙ sign-up (entry (startMatrix d S) 0 j) (entry (startMatrix d S) d j) (last-row j l ∙ ap suc (sym (first-row j)))
+      ∙ sym (getD-replicate d j (pos 1) (pos 0) l))
 
 -- ---- the lower neighbour of a column
 
@@ -144,14 +153,19 @@ module _ {d : ℕ} {B : Matrix} {S : List ℕ} (C : Stairs d B S) where
     where
       j : ℕ
       j = getD S k 0
+
       inside : getD S k 0 < d
       inside = C .order .inside k h
+
       place-here : k < length S
       place-here = omega (arith, C .order .long)
+
       up : i ≤ k → count (getD S k 0) (take i S) ≡ 0
       up q = count-before S k i place-here (C .order .once (getD S k 0) inside) q
+
       down : k < i → count (getD S k 0) (take i S) ≡ 1
       down q = count-after S k i place-here (C .order .once (getD S k 0) inside) q
+
       go : Dec (i ≤ k)
           → (entry B d (getD S k 0) ≡ suc (entry B 0 (getD S k 0))) ⊎ (entry B 0 (getD S k 0) ≡ suc (entry B d (getD S k 0)))
           → entry B i (getD S k 0) ≡ lower d B (getD S k 0) + (lower d B (getD S k 0) + count (getD S k 0) (take i S)) % 2
@@ -172,9 +186,9 @@ module _ {d : ℕ} {B : Matrix} {S : List ℕ} (C : Stairs d B S) where
       ⊎ ((signOf (entry B 0 j) (entry B d j) ≡ negsuc 0) × (lower d B j % 2 ≡ 1))
   sign-by-lower j h =
       ⊎-elim
-        (λ p. inl (sign-up (entry B 0 j) (entry B d j) p, omega (arith, C .even j)))
-        (λ p. inr (sign-down (entry B 0 j) (entry B d j) p, omega (arith, C .even j)))
-        (C .apart j h)
+      (λ p. inl (sign-up (entry B 0 j) (entry B d j) p, omega (arith, C .even j)))
+      (λ p. inr (sign-down (entry B 0 j) (entry B d j) p, omega (arith, C .even j)))
+      (C .apart j h)
 
   -- A step doubles the lower number, and adds one where it and the column's bit differ in parity.
   pub lower-step : (r : List ℕ) → length r ≡ d → (k : ℕ) → k < d → getD r k 0 < 2
@@ -235,9 +249,9 @@ module _ {d : ℕ} {S : List ℕ} (a : Arrangement d S) (r : ℕ → List ℕ) (
   lower-bound small (suc n) j h =
       let p = place-of (state-after (suc n) .order) j h in
       let e = subst
-            (λ c. lower d (matrixAfter d S r (suc n)) c
-            ≡ 2 * lower d (matrixAfter d S r n) c + (lower d (matrixAfter d S r n) c + getD (r n) (p .0) 0) % 2)
-            (p .2) (lower-after n (p .0) (p .1) (small n (p .0))) in
+      (λ c. lower d (matrixAfter d S r (suc n)) c
+      ≡ 2 * lower d (matrixAfter d S r n) c + (lower d (matrixAfter d S r n) c + getD (r n) (p .0) 0) % 2)
+      (p .2) (lower-after n (p .0) (p .1) (small n (p .0))) in
       omega (arith, e, lower-bound small n j h, pow-suc 2 n)
 
   -- Every entry after n steps is at most 2^n.

@@ -5,7 +5,7 @@ use mathlib.Core.Path.{_≡_, refl, sym, ap, ap₂, subst, _∙_}
 use mathlib.Core.Logic.{_≢_}
 use mathlib.Core.Bool.{Bool, true, false, cond}
 use mathlib.Core.List.{List, [], _∷_, _++_, map}
-use native.Mathlib.Nat.{le-of-suc-le-suc, not-suc-le-zero, zero-mul, suc-mul}
+use native.Mathlib.Nat.{le-of-suc-le-suc, not-suc-le-zero, zero-add, suc-add, zero-mul, suc-mul}
 use native.Mathlib.Decide.{ℕ-discrete}
 use native.Mathlib.Omega.{arith}
 use lib.Dec.{T, eqb, eqb→eq, eqb-refl}
@@ -31,13 +31,25 @@ unfolding tabulate
 tabulate-same zero f g e = refl
 tabulate-same (suc n) f g e =
     ap₂ (λ a rest. a ∷ rest) (e zero (omega arith))
-      (tabulate-same n (λ k. f (suc k)) (λ k. g (suc k)) (λ k h. e (suc k) (omega arith)))
+    (tabulate-same n (λ k. f (suc k)) (λ k. g (suc k)) (λ k h. e (suc k) (omega arith)))
 
 -- A list is made from its own elements.
 pub tabulate-getD : {A : Type 0} (l : List A) (z : A) → tabulate (length l) (λ k. getD l k z) ≡ l
 unfolding tabulate
 tabulate-getD [] z = refl
 tabulate-getD (a ∷ l) z = ap (λ rest. a ∷ rest) (tabulate-getD l z)
+
+-- A list of n + m elements is one of n, then one of m.
+pub tabulate-add : {A : Type 0} (n m : ℕ) (f : ℕ → A) → tabulate (n + m) f ≡ tabulate n f ++ tabulate m (λ k. f (n + k))
+unfolding tabulate
+tabulate-add zero m f =
+    ap (λ k. tabulate k f) (zero-add m) ∙ tabulate-same m f (λ k. f (0 + k)) (λ k h. ap f (sym (zero-add k)))
+tabulate-add (suc n) m f =
+    ap (λ k. tabulate k f) (suc-add n m)
+    ∙ ap (λ rest. f zero ∷ rest)
+    (tabulate-add n m (λ k. f (suc k))
+    ∙ ap (λ rest. tabulate n (λ k. f (suc k)) ++ rest)
+    (tabulate-same m (λ k. f (suc (n + k))) (λ k. f (suc n + k)) (λ k h. ap f (sym (suc-add n k)))))
 
 -- ---- elements of a mapped list
 

@@ -2,8 +2,7 @@
 -- the other.
 -- Assumes nothing.
 use Prim.Native.Nat.{ℕ, zero, suc, pred, _+_, _-_, _≤_, _<_}
-use mathlib.Core.Path.{_≡_, refl, sym, ap, ap₂, subst, _∙_}
-use mathlib.Core.Logic.{_≢_}
+use mathlib.Core.Path.{_≡_, refl, sym, ap, ap₂, _∙_}
 use mathlib.Core.List.{List, [], _∷_, _++_, reverse, reverseAux, reverse-cons, append-assoc}
 use native.Mathlib.Nat.{le-of-suc-le-suc, not-suc-le-zero, sub-self, suc-sub-suc}
 use native.Mathlib.Decide.{ℕ-discrete, decLe}
@@ -13,7 +12,7 @@ use lib.Seq.{getD-at, take-suc, drop-cons, getD-drop, append-snoc, take-all}
 use Rattle.ladder.specs.Lists.{tabulate, same, count, ones}
 use Rattle.ladder.specs.Matrix.{Arrangement, orderFrom, stepOrder}
 use Rattle.ladder.specs.Encoding.{picked, passed, rearrange}
-use Rattle.ladder.proofs.Lists.{length-tabulate, getD-tabulate, same-self, same-other, same-is, count-append, count-at, place, ones-le}
+use Rattle.ladder.proofs.Lists.{length-tabulate, getD-tabulate, same-self, same-is, count-append, count-at, place, ones-le}
 use Rattle.ladder.proofs.Step.{length-stepOrder}
 
 -- ---- places of an arrangement
@@ -40,6 +39,7 @@ module _ {d : ℕ} {S : List ℕ} (a : Arrangement d S) where
       apart : (i n : ℕ) → i < n → n < d → getD S i 0 ≡ getD S n 0 → ⊥
       apart i n lt b q =
           omega (arith, count-two S i n lt (omega (arith, a .long)) q, a .once (getD S i 0) (a .inside i (omega arith)))
+
       go : Dec (k ≤ m) → Dec (m ≤ k) → k ≡ m
       go (yes p) (yes q) = omega arith
       go (yes p) (no q) = absurd (apart k m (omega arith) l e)
@@ -48,14 +48,15 @@ module _ {d : ℕ} {S : List ℕ} (a : Arrangement d S) where
   -- A list with the same counts and the same length is an arrangement too.
   pub arrangement-by-counts : (S' : List ℕ) → length S' ≡ d → ((j : ℕ) → count j S' ≡ count j S) → Arrangement d S'
   arrangement-by-counts S' e c = record {
-      long = e;
-      inside = λ k h. go k h;
-      once = λ j h. c j ∙ a .once j h }
+    long = e;
+    inside = λ k h. go k h;
+    once = λ j h. c j ∙ a .once j h;
+  }
     where
       go : (k : ℕ) → k < d → getD S' k 0 < d
       go k h =
           let p = place (getD S' k 0) S
-                (omega (arith, count-at (getD S' k 0) S' k (omega (arith, e)) refl, c (getD S' k 0))) in
+          (omega (arith, count-at (getD S' k 0) S' k (omega (arith, e)) refl, c (getD S' k 0))) in
           omega (arith, p .2, a .inside (p .0) (omega (arith, p .1, a .long)))
 
 -- The columns in number order.
@@ -74,9 +75,10 @@ count-rising (suc n) a j f e =
 
 pub rising-arrangement : (d : ℕ) → Arrangement d (tabulate d (λ j. j))
 rising-arrangement d = record {
-    long = length-tabulate d (λ j. j);
-    inside = λ k h. omega (arith, getD-tabulate d (λ j. j) k 0 h);
-    once = λ j h. count-rising d 0 j (λ k. k) (λ k. omega arith) .1 (omega arith) (omega arith) }
+  long = length-tabulate d (λ j. j);
+  inside = λ k h. omega (arith, getD-tabulate d (λ j. j) k 0 h);
+  once = λ j h. count-rising d 0 j (λ k. k) (λ k. omega arith) .1 (omega arith) (omega arith);
+}
 
 -- ---- picking and passing
 
@@ -123,7 +125,7 @@ length-rearrange S r e =
 pub arrangement-rearrange : {d : ℕ} {S : List ℕ} → Arrangement d S → (r : List ℕ) → length r ≡ d → Arrangement d (rearrange S r)
 arrangement-rearrange {d} {S} a r e =
     arrangement-by-counts a (rearrange S r) (length-rearrange S r (a .long ∙ sym e) ∙ e)
-      (λ j. count-rearrange j S r (a .long ∙ sym e))
+    (λ j. count-rearrange j S r (a .long ∙ sym e))
 
 -- ---- the step undoes the rearranging
 
@@ -136,17 +138,17 @@ forth [] (b ∷ r) W T x y e t p q = absurd (omega arith)
 forth (j ∷ S) [] W T x y e t p q = absurd (omega arith)
 forth (j ∷ S) (zero ∷ r) W T x y e t p q =
     ap₂ (λ a rest. a ∷ rest)
-      (ap (λ U. getD U y 0) (t ∙ sym (append-assoc (reverse (picked S r)) W (j ∷ passed S r)))
-      ∙ getD-at (reverse (picked S r) ++ W) j (passed S r) 0 y
-        (omega (arith, length-append (reverse (picked S r)) W, length-reverse (picked S r))))
-      (forth S r (W ++ (j ∷ [])) T x (suc y) (omega arith)
-        (t ∙ ap (λ U. reverse (picked S r) ++ U) (sym (append-snoc W j (passed S r))))
-        p
-        (omega (arith, length-append W (j ∷ []))))
+    (ap (λ U. getD U y 0) (t ∙ sym (append-assoc (reverse (picked S r)) W (j ∷ passed S r)))
+    ∙ getD-at (reverse (picked S r) ++ W) j (passed S r) 0 y
+    (omega (arith, length-append (reverse (picked S r)) W, length-reverse (picked S r))))
+    (forth S r (W ++ (j ∷ [])) T x (suc y) (omega arith)
+    (t ∙ ap (λ U. reverse (picked S r) ++ U) (sym (append-snoc W j (passed S r))))
+    p
+    (omega (arith, length-append W (j ∷ []))))
 forth (j ∷ S) (suc b ∷ r) W T x y e t p q =
     ap₂ (λ a rest. a ∷ rest)
-      (ap (λ U. getD U (pred x) 0) front ∙ getD-at (reverse (picked S r)) j (W ++ passed S r) 0 (pred x) (omega (arith, length-reverse (picked S r))))
-      (forth S r (j ∷ W) T (pred x) y (omega arith) front (omega arith) (omega arith))
+    (ap (λ U. getD U (pred x) 0) front ∙ getD-at (reverse (picked S r)) j (W ++ passed S r) 0 (pred x) (omega (arith, length-reverse (picked S r))))
+    (forth S r (j ∷ W) T (pred x) y (omega arith) front (omega arith) (omega arith))
   where
     front : T ≡ reverse (picked S r) ++ (j ∷ (W ++ passed S r))
     front =
@@ -157,7 +159,7 @@ pub stepOrder-rearrange : (S r : List ℕ) → length S ≡ length r → stepOrd
 unfolding stepOrder rearrange
 stepOrder-rearrange S r e =
     forth S r [] (reverse (picked S r) ++ passed S r) (ones r) (ones r) e refl (sym (length-picked S r e))
-      (omega (arith, length-picked S r e))
+    (omega (arith, length-picked S r e))
 
 -- ---- the rearranging undoes the step
 
@@ -171,8 +173,8 @@ picked-order T x y (suc b ∷ r) h l =
     let last : pred x ≡ x - suc (ones r) + ones r = omega arith in
     reverse-cons (getD T (pred x) 0) (picked (orderFrom T (pred x) y r) r)
     ∙ ap₂ (λ U a. U ++ (a ∷ []))
-      (picked-order T (pred x) y r (omega arith) (omega arith) ∙ ap (λ m. take (ones r) (drop m T)) from)
-      (ap (λ m. getD T m 0) last ∙ sym (getD-drop (x - suc (ones r)) T (ones r) 0))
+    (picked-order T (pred x) y r (omega arith) (omega arith) ∙ ap (λ m. take (ones r) (drop m T)) from)
+    (ap (λ m. getD T m 0) last ∙ sym (getD-drop (x - suc (ones r)) T (ones r) 0))
     ∙ sym (take-suc (drop (x - suc (ones r)) T) (ones r) 0 (omega (arith, length-drop (x - suc (ones r)) T)))
 
 passed-order : (T : List ℕ) (x y : ℕ) (r : List ℕ) → y + (length r - ones r) ≤ length T
@@ -190,14 +192,14 @@ pub rearrange-stepOrder : (S r : List ℕ) → length S ≡ length r → rearran
 unfolding stepOrder rearrange
 rearrange-stepOrder S r e =
     ap₂ (λ U W. U ++ W)
-      (picked-order S (ones r) (ones r) r (omega arith) (omega (arith, ones-le r)) ∙ ap (λ m. take (ones r) (drop m S)) (sub-self (ones r)))
-      (passed-order S (ones r) (ones r) r (omega (arith, ones-le r))
-      ∙ take-all (length r - ones r) (drop (ones r) S) (omega (arith, length-drop (ones r) S)))
+    (picked-order S (ones r) (ones r) r (omega arith) (omega (arith, ones-le r)) ∙ ap (λ m. take (ones r) (drop m S)) (sub-self (ones r)))
+    (passed-order S (ones r) (ones r) r (omega (arith, ones-le r))
+    ∙ take-all (length r - ones r) (drop (ones r) S) (omega (arith, length-drop (ones r) S)))
     ∙ take-append-drop (ones r) S
 
 -- A step keeps every column's count, and so keeps arrangements.
 pub arrangement-step : {d : ℕ} {S : List ℕ} → Arrangement d S → (r : List ℕ) → length r ≡ d → Arrangement d (stepOrder S r)
 arrangement-step {d} {S} a r e =
     arrangement-by-counts a (stepOrder S r) (length-stepOrder S r ∙ e)
-      (λ j. sym (count-rearrange j (stepOrder S r) r (length-stepOrder S r))
-      ∙ ap (λ U. count j U) (rearrange-stepOrder S r (a .long ∙ sym e)))
+    (λ j. sym (count-rearrange j (stepOrder S r) r (length-stepOrder S r))
+    ∙ ap (λ U. count j U) (rearrange-stepOrder S r (a .long ∙ sym e)))

@@ -12,11 +12,12 @@ use lib.Dec.{T, eqb, leb, ltb, leb→le, le→leb, eqb→eq, eqb-refl, eqb·suc-
 use lib.IntN.{ℤ, pos, negsuc, pos-ne-negsuc}
 use lib.ListN.{length, take, drop, getD, length-map, length-take, List·getD-map, List·getD-eq-default}
 use lib.Seq.{getD-take, getD-drop}
-use Rattle.ladder.specs.Lists.{same, count, allBelow}
+use Rattle.ladder.specs.Lists.{same, count, all}
 use Rattle.ladder.specs.Matrix.{Arrangement}
 use Rattle.ladder.specs.Plan.{Plan, startOrder}
+use Rattle.ladder.specs.Registers.{modulus}
 use Rattle.ladder.specs.Walk.{Walk}
-use Rattle.ladder.specs.Refusals.{_then_, unless, within, dim, len, shape, stepShape, scalar, allWithin, eachOnce, isArrangement, order, isUnit, isZero, all, walkOrder, answer, tooLarge, element, trailer, distance, big, planRefusal}
+use Rattle.ladder.specs.Refusals.{_then_, unless, within, dim, len, shape, stepShape, scalar, eachOnce, isArrangement, order, isUnit, isZero, walkOrder, answer, tooLarge, element, trailer, distance, big, planRefusal, runRefusal}
 use Rattle.ladder.proofs.Lists.{getD-map}
 
 -- ---- tests and their order
@@ -110,24 +111,9 @@ past-says test z n l says =
     past f j (yes h) = f j h
     past f j (no h) = List·getD-eq-default (drop n l) z (omega arith)
 
-allBelow-all : (bound : ℕ) (l : List ℕ) → allBelow bound l ≡ all (λ n. ltb n bound) l
-unfolding allBelow all
-allBelow-all bound [] = refl
-allBelow-all bound (n ∷ l) = ap (λ b. ltb n bound && b) (allBelow-all bound l)
-
 -- Every number is below a bound.
-pub allBelow-says : (bound : ℕ) (l : List ℕ) → Says (allBelow bound l) ((j : ℕ) → j < length l → getD l j 0 < bound)
-allBelow-says bound l = rw allBelow-all (all-says (λ n. ltb n bound) 0 l (λ n. leb-says (suc n) bound))
-
-allWithin-all : (lo hi : ℕ) (l : List ℕ) → allWithin lo hi l ≡ all (within lo hi) l
-unfolding allWithin all
-allWithin-all lo hi [] = refl
-allWithin-all lo hi (n ∷ l) = ap (λ b. within lo hi n && b) (allWithin-all lo hi l)
-
--- Every number is in a range.
-pub allWithin-says : (lo hi : ℕ) (l : List ℕ)
-    → Says (allWithin lo hi l) ((j : ℕ) → j < length l → (lo ≤ getD l j 0) × (getD l j 0 ≤ hi))
-allWithin-says lo hi l = rw allWithin-all (all-says (within lo hi) 0 l (within-says lo hi))
+pub below-says : (bound : ℕ) (l : List ℕ) → Says (all (λ n. ltb n bound) l) ((j : ℕ) → j < length l → getD l j 0 < bound)
+below-says bound l = all-says (λ n. ltb n bound) 0 l (λ n. leb-says (suc n) bound)
 
 -- Each of 1..n occurs once.
 pub eachOnce-says : (n : ℕ) (S : List ℕ) → Says (eachOnce n S) ((j : ℕ) → j < n → count (suc j) S ≡ 1)
@@ -165,7 +151,7 @@ suc-pred (n ∷ S) h =
 pub isArrangement-says : (d : ℕ) (S : List ℕ) → Says (isArrangement d S) (OrderOk d S)
 unfolding isArrangement
 isArrangement-says d S =
-    reworded (and-says (and-says (eqb-says (length S) d) (allWithin-says 1 d S)) (eachOnce-says d S)) (
+    reworded (and-says (and-says (eqb-says (length S) d) (all-says (within 1 d) 0 S (within-says 1 d))) (eachOnce-says d S)) (
       λ t.
           let counted : S ≡ map suc (map pred S) = suc-pred S (λ j h. t .0 .1 j h .0) in
           record {
@@ -228,7 +214,7 @@ stepShape-none d n = unless-says 2 (leb-says (suc n) (2 ^ d))
 -- Every scalar has l bits.
 pub scalar-none : (l : ℕ) (ks : List ℕ) → scalar l ks ≡ 0 ↔ ((j : ℕ) → j < length ks → getD ks j 0 < 2 ^ l)
 unfolding scalar
-scalar-none l ks = unless-says 3 (allBelow-says (2 ^ l) ks)
+scalar-none l ks = unless-says 3 (below-says (2 ^ l) ks)
 
 -- An order is an arrangement of 1..d.
 pub order-none : (d : ℕ) (S : List ℕ) → order d S ≡ 0 ↔ OrderOk d S
@@ -285,7 +271,17 @@ pub element-none : (m : ℕ) (es : List ℕ) → element m es ≡ 0 ↔ (m ≡ 0
 unfolding element
 element-none zero es = (λ e. inl refl, λ e. refl)
 element-none (suc m) es =
-    unless-says 7 (reworded (allBelow-says (suc m) es) (inr, ⊎-elim (λ e. absurd (omega arith)) (λ f. f)))
+    unless-says 7 (reworded (below-says (suc m) es) (inr, ⊎-elim (λ e. absurd (omega arith)) (λ f. f)))
+
+-- Accepted elements, which are words, are at most the modulus.
+pub elements-fit : (m : ℕ) (es : List ℕ) → element m es ≡ 0 → ((j : ℕ) → getD es j 0 < 2 ^ 64) → (j : ℕ) → getD es j 0 ≤ modulus m
+unfolding modulus
+elements-fit zero es e words j = omega (arith, words j)
+elements-fit (suc m) es e words j = ⊎-elim (λ z. absurd (omega arith)) (λ f. go f (decLt j (length es))) (element-none (suc m) es .0 e)
+  where
+    go : ((i : ℕ) → i < length es → getD es i 0 < suc m) → Dec (j < length es) → getD es j 0 ≤ suc m
+    go f (yes h) = omega (arith, f j h)
+    go f (no h) = omega (arith, List·getD-eq-default es 0 {n = j} (omega arith))
 
 -- ---- a plan that is read
 
@@ -341,6 +337,15 @@ accept p ok =
     let columns = order-none (p .d) (p .start) .1 (record { columns = ok .start; counted = ok .columns }) in
     let row = answer-none (p .d) (p .answer) .1 (ok .answerLow, ok .answerHigh) in
     none-then _ _ ds (none-then _ _ ls (none-then 0 _ refl (none-then _ _ columns row)))
+
+-- A run that is not refused has an accepted plan, and elements that fit.
+pub run-accepted : (p : Plan) (m : ℕ) (es regs : List ℕ) → runRefusal p m es regs ≡ 0
+    → Accepted p × (((j : ℕ) → getD es j 0 < 2 ^ 64) → (j : ℕ) → getD es j 0 ≤ modulus m)
+unfolding runRefusal
+run-accepted p m es regs e =
+    let a = then-none (planRefusal p _) _ e in
+    let b = then-none (tooLarge m) _ (a .1) in
+    (accepted p _ (a .0), elements-fit m es (b .1))
 
 -- ---- each refusal is 0 or its own number
 

@@ -1,20 +1,20 @@
 -- Registers: a valuation of rows that respects double and add on state matrices is what the registers hold after each step.
 -- So the plain run and the difference run both hold each row's combination of the elements, by the modulus.
 -- Assumes nothing.
-use Prim.Native.Nat.{ℕ, zero, suc, _+_, _-_, _*_, _%_, _^_, _≤_, _<_}
+use Prim.Native.Nat.{ℕ, zero, suc, _+_, _-_, _*_, _%_, _≤_, _<_}
 use mathlib.Core.Path.{_≡_, refl, sym, ap, ap₂, _∙_}
 use mathlib.Core.List.{List, [], _∷_, map}
-use native.Mathlib.Nat.{add-mul, mul-add, add-mod, zero-mod, mod-add-mod, add-mod-mod, add-mul-mod-self-right, two-mul, mul-sub, mul-le-mul-left, mul-comm, zero-mul, suc-mul, add-comm}
+use native.Mathlib.Nat.{add-mul, mul-add, add-mod, zero-mod, mod-add-mod, add-mul-mod-self-right, two-mul, zero-mul, suc-mul, add-comm}
 use native.Mathlib.Decide.{decLe}
 use native.Mathlib.Omega.{arith}
-use lib.IntN.{ℤ, pos, negsuc, subℕ}
+use lib.IntN.{subℕ}
 use lib.ListN.{length, getD, replicate, length-replicate}
 use Rattle.ladder.specs.Lists.{tabulate, ones}
-use Rattle.ladder.specs.Matrix.{Row, Matrix, row, entry, Arrangement, StateMatrix, addRows, doubleRow, bump, rowsFrom, startMatrix, Pair, additions, step, matrixAfter, orderAfter}
+use Rattle.ladder.specs.Matrix.{Row, Matrix, row, Arrangement, StateMatrix, addRows, doubleRow, bump, rowsFrom, startMatrix, Pair, additions, step, matrixAfter}
 use Rattle.ladder.specs.Trace.{difference}
 use Rattle.ladder.specs.Registers.{Rule, stepRegisters, registersAfter, modulus, sumOf, combination, timesSigned, signedSum, plainRule, differenceRule, startFrom, startRegisters}
 use Rattle.ladder.proofs.Lists.{getD-map, map-map, map-same, ones-le}
-use Rattle.ladder.proofs.Step.{rowX, rowY, rowY-inside, length-additions, additions-x, additions-y}
+use Rattle.ladder.proofs.Step.{rowY-inside, length-additions, additions-x, additions-y}
 use Rattle.ladder.proofs.Ladder.{length-bump, state-after}
 use Rattle.ladder.proofs.Trace.{sub-le, sub-lt, rows-apart}
 
@@ -45,17 +45,17 @@ module _ {A : Type 0} {rule : Rule A} {d : ℕ} {value : Row → A} (R : Respect
   unfolding stepRegisters step
   value-step {B} {S} M r long =
       ap₂ (λ a rest. a ∷ rest)
-        (ap (rule .double) (held M (ones r) (omega (arith, ones-le r))) ∙ R .doubles B S M (ones r) (omega (arith, ones-le r)))
-        (map-same
-          (λ p. rule .add (getD (map value B) (p .x) (rule .none)) (getD (map value B) (p .y) (rule .none)) (difference d (row B (p .y)) (row B (p .x))))
-          (λ p. value (addRows (row B (p .x)) (row B (p .y))))
-          (additions r) zeros
-          (λ i h.
-            let b : i < length r = omega (arith, length-additions r) in
-            value-sum M (getD (additions r) i zeros .x) (getD (additions r) i zeros .y)
-              (omega (arith, additions-x r i zeros b, additions-y r i zeros b, rows-apart r i b))
-              (omega (arith, additions-y r i zeros b, rowY-inside r (suc i) b)))
-        ∙ sym (map-map value (λ p. addRows (row B (p .x)) (row B (p .y))) (additions r)))
+      (ap (rule .double) (held M (ones r) (omega (arith, ones-le r))) ∙ R .doubles B S M (ones r) (omega (arith, ones-le r)))
+      (map-same
+      (λ p. rule .add (getD (map value B) (p .x) (rule .none)) (getD (map value B) (p .y) (rule .none)) (difference d (row B (p .y)) (row B (p .x))))
+      (λ p. value (addRows (row B (p .x)) (row B (p .y))))
+      (additions r) zeros
+      (λ i h.
+      let b : i < length r = omega (arith, length-additions r) in
+      value-sum M (getD (additions r) i zeros .x) (getD (additions r) i zeros .y)
+      (omega (arith, additions-x r i zeros b, additions-y r i zeros b, rows-apart r i b))
+      (omega (arith, additions-y r i zeros b, rowY-inside r (suc i) b)))
+      ∙ sym (map-map value (λ p. addRows (row B (p .x)) (row B (p .y))) (additions r)))
     where
       zeros : Pair
       zeros = record { x = 0; y = 0 }
@@ -113,8 +113,8 @@ unfolding startFrom rowsFrom combination
 start-from m es u [] h = refl
 start-from m es u (j ∷ S) h =
     ap (λ rest. combination m es u ∷ rest)
-      (ap (λ a. startFrom m es a S) (next (h zero (omega arith)))
-      ∙ start-from m es (bump u j) S (λ k l. omega (arith, h (suc k) (omega arith), length-bump u j)))
+    (ap (λ a. startFrom m es a S) (next (h zero (omega arith)))
+    ∙ start-from m es (bump u j) S (λ k l. omega (arith, h (suc k) (omega arith), length-bump u j)))
   where
     next : j < length u → (combination m es u + getD es j 0) % modulus m ≡ combination m es (bump u j)
     next l =
@@ -126,19 +126,20 @@ unfolding startRegisters startMatrix combination
 start-registers m es {d} {S} a =
     ap (λ n. startFrom m es n S) (sym (ap (λ n. n % modulus m) (sumOf-zeros d es) ∙ zero-mod (modulus m)))
     ∙ start-from m es (replicate d 0) S
-      (λ k h. omega (arith, a .inside k (omega (arith, a .long)), length-replicate d zero))
+    (λ k h. omega (arith, a .inside k (omega (arith, a .long)), length-replicate d zero))
 
 -- ---- the plain run
 
 pub plain-respects : (m : ℕ) (es : List ℕ) (d : ℕ) → Respects (plainRule m) d (combination m es)
 unfolding plainRule combination
 plain-respects m es d = record {
-    doubles = λ B S M i h.
+  doubles = λ B S M i h.
       sym (add-mod (sumOf (row B i) es) (sumOf (row B i) es) (modulus m))
       ∙ ap (λ n. n % modulus m) (sym (sumOf-doubleRow (row B i) es));
-    adds = λ B S M x y h l.
+  adds = λ B S M x y h l.
       sym (add-mod (sumOf (row B x) es) (sumOf (row B y) es) (modulus m))
-      ∙ ap (λ n. n % modulus m) (sym (sumOf-addRows (row B x) (row B y) es)) }
+      ∙ ap (λ n. n % modulus m) (sym (sumOf-addRows (row B x) (row B y) es));
+}
 
 -- ---- the difference run
 
@@ -157,7 +158,7 @@ term m a b e f n k = go (decLe a b)
         let t = suc (a - suc b) in
         let parts : a * e ≡ b * e + t * e = ap (λ c. c * e) (omega arith) ∙ add-mul b t e in
         let less : t * (modulus m - e) + t * e ≡ t * modulus m =
-              sym (mul-add t (modulus m - e) e) ∙ ap (λ c. t * c) (omega arith) in
+        sym (mul-add t (modulus m - e) e) ∙ ap (λ c. t * c) (omega arith) in
         let sum : a * e + n + (t * (modulus m - e) + k) ≡ b * e + (n + k) + t * modulus m = omega arith in
         ap (λ c. (a * e + n + (timesSigned m c e + k)) % modulus m) (sub-lt b a (omega arith))
         ∙ ap (λ c. c % modulus m) sum
@@ -180,7 +181,7 @@ difference-sum m (suc d) (a ∷ u) (b ∷ v) (e ∷ es) h l f k =
     ap (λ n. n % modulus m) (omega arith)
     ∙ term m a b e (f zero) (sumOf u es) (D + k)
     ∙ (let shift : b * e + (sumOf u es + (D + k)) ≡ sumOf u es + (D + (b * e + k)) = omega arith in
-      ap (λ n. n % modulus m) shift)
+    ap (λ n. n % modulus m) shift)
     ∙ difference-sum m d u v es (omega arith) (omega arith) (λ j. f (suc j)) (b * e + k)
     ∙ ap (λ n. n % modulus m) (omega arith)
 
@@ -188,15 +189,16 @@ pub difference-respects : (m : ℕ) (es : List ℕ) (d : ℕ) → ((j : ℕ) →
     → Respects (differenceRule m es) d (combination m es)
 unfolding differenceRule combination
 difference-respects m es d fits = record {
-    doubles = λ B S M i h.
+  doubles = λ B S M i h.
       sym (add-mod (sumOf (row B i) es) (sumOf (row B i) es) (modulus m))
       ∙ ap (λ n. n % modulus m) (sym (sumOf-doubleRow (row B i) es));
-    adds = λ B S M x y h l.
+  adds = λ B S M x y h l.
       let X = sumOf (row B x) es in
       let D = signedSum m (difference d (row B y) (row B x)) es in
       twice X D (modulus m)
       ∙ difference-sum m d (row B x) (row B y) es (M .wide x (omega arith)) (M .wide y l) fits X
-      ∙ ap (λ n. n % modulus m) (add-comm (sumOf (row B y) es) X ∙ sym (sumOf-addRows (row B x) (row B y) es)) }
+      ∙ ap (λ n. n % modulus m) (add-comm (sumOf (row B y) es) X ∙ sym (sumOf-addRows (row B x) (row B y) es));
+}
   where
     twice : (a k M : ℕ) → (2 * (a % M) + k) % M ≡ (a + (k + a)) % M
     twice a k M =

@@ -1,7 +1,7 @@
 -- A step takes any state matrix, with its order and signs, to a state matrix with the order and signs that the rules give.
 -- The proof goes by columns: a column is a stair, its even entry down to its place and its odd entry below.
 -- Assumes nothing.
-use Prim.Native.Nat.{ℕ, zero, suc, _+_, _-_, _%_, _≤_, _<_}
+use Prim.Native.Nat.{ℕ, zero, suc, _+_, _%_, _≤_, _<_}
 use mathlib.Core.Path.{_≡_, refl, sym, ap, ap₂, subst, _∙_}
 use mathlib.Core.Logic.{_≢_, _⊎_, inl, inr, ⊎-elim}
 use mathlib.Core.Bool.{Bool, true, false, cond}
@@ -13,8 +13,8 @@ use lib.Dec.{T, eqb, eqb→eq, eqb-refl}
 use lib.IntN.{ℤ, pos, negsuc, negℤ}
 use lib.ListN.{length, getD, set, length-set, List·getD-eq-default}
 use lib.Seq.{ext-getD, getD-set-same, getD-set-other}
-use Rattle.ladder.specs.Lists.{tabulate, same, count, ones, odds}
-use Rattle.ladder.specs.Matrix.{Row, Matrix, row, entry, Arrangement, DifferIn, StateMatrix, signOf, signsOf, step, stepOrder, turn, stepSigns}
+use Rattle.ladder.specs.Lists.{count, odds}
+use Rattle.ladder.specs.Matrix.{Row, Matrix, row, entry, Arrangement, StateMatrix, signOf, signsOf, step, stepOrder, turn, stepSigns}
 use Rattle.ladder.proofs.Lists.{length-tabulate, getD-tabulate, same-is, count-at, ones-le}
 use Rattle.ladder.proofs.Step.{onesTo-le, onesTo-between, onesTo-all, onesTo-one, onesTo-zero, rowX, rowY, rowX-inside, rowY-inside, length-step, entry-step, wide-step, length-stepOrder, stepOrder-one, stepOrder-zero}
 use Rattle.ladder.proofs.Order.{place-of, place-once, arrangement-step}
@@ -58,8 +58,12 @@ odds-more (a ∷ u) (b ∷ v) zero e h s p q =
     let t : u ≡ v = ext-getD 0 u v (omega arith) (λ i l. s (suc i) (omega arith)) in
     omega (arith, ap odds t)
 odds-more (a ∷ u) (b ∷ v) (suc j) e h s p q =
-    omega (arith, s zero (omega arith), ap (λ n. n % 2) (s zero (omega arith)),
-      odds-more u v j (omega arith) (le-of-suc-le-suc h) (λ i n. s (suc i) (λ g. n (omega arith))) p q)
+    omega (
+      arith,
+      s zero (omega arith),
+      ap (λ n. n % 2) (s zero (omega arith)),
+      odds-more u v j (omega arith) (le-of-suc-le-suc h) (λ i n. s (suc i) (λ g. n (omega arith))) p q,
+    )
 
 -- ---- from a state matrix to its columns
 
@@ -91,16 +95,18 @@ module _ {d : ℕ} {B : Matrix} {S : List ℕ} (M : StateMatrix d B S) where
   -- The columns of a state matrix are stairs.
   pub stairs : Stairs d B S
   stairs = record {
-      rows = M .rows;
-      wide = M .wide;
-      order = M .order;
-      stair = λ k h. record {
-        upper = upper-part k h;
-        lower = λ i l m. below-place k h i l m ∙ sym (below-place k h d h (omega arith)) };
-      even = odds-none (row B 0) (M .odd 0 (omega arith));
-      apart = λ j h.
+    rows = M .rows;
+    wide = M .wide;
+    order = M .order;
+    stair = λ k h. record {
+      upper = upper-part k h;
+      lower = λ i l m. below-place k h i l m ∙ sym (below-place k h d h (omega arith));
+    };
+    even = odds-none (row B 0) (M .odd 0 (omega arith));
+    apart = λ j h.
         let p = place-of (M .order) j h in
-        subst (λ c. (entry B d c ≡ suc (entry B 0 c)) ⊎ (entry B 0 c ≡ suc (entry B d c))) (p .2) (apart-at (p .0) (p .1)) }
+        subst (λ c. (entry B d c ≡ suc (entry B 0 c)) ⊎ (entry B 0 c ≡ suc (entry B d c))) (p .2) (apart-at (p .0) (p .1));
+  }
 
 -- ---- and back
 
@@ -117,14 +123,15 @@ module _ {d : ℕ} {B : Matrix} {S : List ℕ} (C : Stairs d B S) where
       at : (m : ℕ) → m < d → getD S m 0 ≡ i → Dec (k ≤ m) → entry B k i ≡ entry B (suc k) i
       at m l e (yes q) =
           subst (λ c. entry B k c ≡ entry B (suc k) c) e
-            (C .stair m l .upper k q ∙ sym (C .stair m l .upper (suc k) (go-on (ℕ-discrete m k))))
+          (C .stair m l .upper k q ∙ sym (C .stair m l .upper (suc k) (go-on (ℕ-discrete m k))))
         where
           go-on : Dec (m ≡ k) → suc k ≤ m
           go-on (yes f) = absurd (n (sym e ∙ ap (λ c. getD S c 0) f))
           go-on (no f) = omega arith
       at m l e (no q) =
           subst (λ c. entry B k c ≡ entry B (suc k) c) e
-            (C .stair m l .lower k (omega arith) (omega arith) ∙ sym (C .stair m l .lower (suc k) (omega arith) h))
+          (C .stair m l .lower k (omega arith) (omega arith) ∙ sym (C .stair m l .lower (suc k) (omega arith) h))
+
       go : Dec (i < d) → entry B k i ≡ entry B (suc k) i
       go (yes l) = let p = place-of (C .order) i l in at (p .0) (p .1) (p .2) (decLe k (p .0))
       go (no l) =
@@ -137,28 +144,30 @@ module _ {d : ℕ} {B : Matrix} {S : List ℕ} (C : Stairs d B S) where
       let j = getD S k 0 in
       let st = C .stair k h in
       odds-more (row B k) (row B (suc k)) j (C .wide k (omega arith) ∙ sym (C .wide (suc k) h))
-        (omega (arith, C .wide k (omega arith), C .order .inside k h))
-        (other-columns k h)
-        (ap (λ n. n % 2) (st .upper k (omega arith)) ∙ C .even j)
-        (ap (λ n. n % 2) (st .lower (suc k) (omega arith) h)
-        ∙ odd-below (entry B 0 j) (entry B d j) (C .even j) (C .apart j (C .order .inside k h)))
+      (omega (arith, C .wide k (omega arith), C .order .inside k h))
+      (other-columns k h)
+      (ap (λ n. n % 2) (st .upper k (omega arith)) ∙ C .even j)
+      (ap (λ n. n % 2) (st .lower (suc k) (omega arith) h)
+      ∙ odd-below (entry B 0 j) (entry B d j) (C .even j) (C .apart j (C .order .inside k h)))
       ∙ ap suc (odd-rows k (omega arith))
 
   -- Stairs at every place make a state matrix.
   pub from-stairs : StateMatrix d B S
   from-stairs = record {
-      rows = C .rows;
-      wide = C .wide;
-      odd = odd-rows;
-      next = λ k h. record {
-        here =
+    rows = C .rows;
+    wide = C .wide;
+    odd = odd-rows;
+    next = λ k h. record {
+      here =
           let st = C .stair k h in
           ⊎-elim
-            (λ e. inl (st .lower (suc k) (omega arith) h ∙ e ∙ ap suc (sym (st .upper k (omega arith)))))
-            (λ e. inr (st .upper k (omega arith) ∙ e ∙ ap suc (sym (st .lower (suc k) (omega arith) h))))
-            (C .apart (getD S k 0) (C .order .inside k h));
-        elsewhere = other-columns k h };
-      order = C .order }
+          (λ e. inl (st .lower (suc k) (omega arith) h ∙ e ∙ ap suc (sym (st .upper k (omega arith)))))
+          (λ e. inr (st .upper k (omega arith) ∙ e ∙ ap suc (sym (st .lower (suc k) (omega arith) h))))
+          (C .apart (getD S k 0) (C .order .inside k h));
+      elsewhere = other-columns k h;
+    };
+    order = C .order;
+  }
 
 -- ---- the step
 
@@ -175,17 +184,18 @@ module _ {d : ℕ} {B : Matrix} {S : List ℕ} (C : Stairs d B S) (r : List ℕ)
       let most = onesTo-between r (suc k) (length r) (omega arith) .0 in
       record {
         upper = λ i l.
-          let way = onesTo-between r i k l .0 in
-          entry-step B r i j (omega arith)
-          ∙ ap₂ (λ a c. a + c)
+            let way = onesTo-between r i k l .0 in
+            entry-step B r i j (omega arith)
+            ∙ ap₂ (λ a c. a + c)
             (st .lower (rowX r i) (omega (arith, onesTo-all r)) (omega (arith, rowX-inside r i)))
             (st .lower (rowY r i) (omega (arith, onesTo-all r)) (omega (arith, rowY-inside r i (omega arith))));
         lower = λ i l m.
-          let way = onesTo-between r (suc k) i l .0 in
-          entry-step B r i j (omega arith)
-          ∙ ap₂ (λ a c. a + c)
+            let way = onesTo-between r (suc k) i l .0 in
+            entry-step B r i j (omega arith)
+            ∙ ap₂ (λ a c. a + c)
             (st .upper (rowX r i) (omega arith))
-            (st .lower (rowY r i) (omega (arith, onesTo-all r)) (omega (arith, rowY-inside r i (omega arith)))) }
+            (st .lower (rowY r i) (omega (arith, onesTo-all r)) (omega (arith, rowY-inside r i (omega arith))));
+      }
 
   -- A column that goes from place rowY r k to place k, whose bit is 0.
   stair-zero : (k j e o : ℕ) → k < d → getD r k 0 ≡ 0 → Stair d B j (rowY r k) e o → Stair d (step B r) j k (e + e) (e + o)
@@ -193,46 +203,53 @@ module _ {d : ℕ} {B : Matrix} {S : List ℕ} (C : Stairs d B S) (r : List ℕ)
       let here = onesTo-zero r k (omega arith) b in
       record {
         upper = λ i l.
-          let way = onesTo-between r i k l .1 in
-          entry-step B r i j (omega arith)
-          ∙ ap₂ (λ a c. a + c)
+            let way = onesTo-between r i k l .1 in
+            entry-step B r i j (omega arith)
+            ∙ ap₂ (λ a c. a + c)
             (st .upper (rowX r i) (omega arith))
             (st .upper (rowY r i) (omega (arith, onesTo-le r i, onesTo-le r k)));
         lower = λ i l m.
-          let way = onesTo-between r (suc k) i l .1 in
-          entry-step B r i j (omega arith)
-          ∙ ap₂ (λ a c. a + c)
+            let way = onesTo-between r (suc k) i l .1 in
+            entry-step B r i j (omega arith)
+            ∙ ap₂ (λ a c. a + c)
             (st .upper (rowX r i) (omega arith))
             (st .lower (rowY r i) (omega (arith, onesTo-le r i, onesTo-le r k))
-              (omega (arith, rowY-inside r i (omega arith)))) }
+            (omega (arith, rowY-inside r i (omega arith))));
+      }
 
   -- The column at new place k.
   pub stair-step : (k : ℕ) → k < d
       → Stair d (step B r) (getD (stepOrder S r) k 0) k
-        (nextEven (getD r k 0) (entry B 0 (getD (stepOrder S r) k 0)) (entry B d (getD (stepOrder S r) k 0)))
-        (entry B 0 (getD (stepOrder S r) k 0) + entry B d (getD (stepOrder S r) k 0))
+      (nextEven (getD r k 0) (entry B 0 (getD (stepOrder S r) k 0)) (entry B d (getD (stepOrder S r) k 0)))
+      (entry B 0 (getD (stepOrder S r) k 0) + entry B d (getD (stepOrder S r) k 0))
   stair-step k h = go (getD r k 0) refl
     where
       New : ℕ → Type 0
       New b =
           Stair d (step B r) (getD (stepOrder S r) k 0) k
-            (nextEven b (entry B 0 (getD (stepOrder S r) k 0)) (entry B d (getD (stepOrder S r) k 0)))
-            (entry B 0 (getD (stepOrder S r) k 0) + entry B d (getD (stepOrder S r) k 0))
+          (nextEven b (entry B 0 (getD (stepOrder S r) k 0)) (entry B d (getD (stepOrder S r) k 0)))
+          (entry B 0 (getD (stepOrder S r) k 0) + entry B d (getD (stepOrder S r) k 0))
+
       go : (b : ℕ) → getD r k 0 ≡ b → New b
       go zero e =
           subst (λ j. Stair d (step B r) j k (entry B 0 j + entry B 0 j) (entry B 0 j + entry B d j))
-            (sym (stepOrder-zero S r k (omega arith) e))
-            (stair-zero k (getD S (rowY r k) 0) (entry B 0 (getD S (rowY r k) 0)) (entry B d (getD S (rowY r k) 0)) h e
-              (C .stair (rowY r k)
-                (omega (arith, onesTo-zero r k (omega arith) e, onesTo-le r k, rowY-inside r (suc k) (omega arith)))))
+          (sym (stepOrder-zero S r k (omega arith) e))
+          (stair-zero k (getD S (rowY r k) 0) (entry B 0 (getD S (rowY r k) 0)) (entry B d (getD S (rowY r k) 0)) h e
+          (C .stair (rowY r k)
+          (omega (arith, onesTo-zero r k (omega arith) e, onesTo-le r k, rowY-inside r (suc k) (omega arith)))))
       go (suc b) e =
           subst (λ j. Stair d (step B r) j k (entry B d j + entry B d j) (entry B 0 j + entry B d j))
-            (sym (stepOrder-one S r k (omega arith) (omega arith)))
-            (stair-one k (getD S (rowX r (suc k)) 0) (entry B 0 (getD S (rowX r (suc k)) 0)) (entry B d (getD S (rowX r (suc k)) 0))
-              h (omega arith)
-              (C .stair (rowX r (suc k))
-                (omega (arith, onesTo-one r k (omega arith) (omega arith), ones-le r, onesTo-all r,
-                  onesTo-between r (suc k) (length r) (omega arith) .0))))
+          (sym (stepOrder-one S r k (omega arith) (omega arith)))
+          (stair-one k (getD S (rowX r (suc k)) 0) (entry B 0 (getD S (rowX r (suc k)) 0)) (entry B d (getD S (rowX r (suc k)) 0))
+          h (omega arith)
+          (C .stair (rowX r (suc k))
+          (omega (
+            arith,
+            onesTo-one r k (omega arith) (omega arith),
+            ones-le r,
+            onesTo-all r,
+            onesTo-between r (suc k) (length r) (omega arith) .0,
+          ))))
 
   pub new-order : Arrangement d (stepOrder S r)
   new-order = arrangement-step (C .order) r long
@@ -240,27 +257,31 @@ module _ {d : ℕ} {B : Matrix} {S : List ℕ} (C : Stairs d B S) (r : List ℕ)
   -- The columns after a step are stairs at their new places.
   pub stairs-step : Stairs d (step B r) (stepOrder S r)
   stairs-step = record {
-      rows = length-step B r ∙ ap suc long;
-      wide = wide-step d B r long (C .wide);
-      order = new-order;
-      stair = λ k h.
+    rows = length-step B r ∙ ap suc long;
+    wide = wide-step d B r long (C .wide);
+    order = new-order;
+    stair = λ k h.
         let st = stair-step k h in
         record {
           upper = λ i l. st .upper i l ∙ sym (st .upper 0 (omega arith));
-          lower = λ i l m. st .lower i l m ∙ sym (st .lower d h (omega arith)) };
-      even = λ j.
+          lower = λ i l m. st .lower i l m ∙ sym (st .lower d h (omega arith));
+        };
+    even = λ j.
         let e = entry-step B r 0 j (omega arith) in
         let s : rowX r 0 ≡ rowY r 0 = omega (arith, onesTo-le r 0) in
         omega (arith, e, ap (λ i. entry B i j) s);
-      apart = λ j h. let p = place-of new-order j h in subst Apart (p .2) (apart-new (p .0) (p .1)) }
+    apart = λ j h. let p = place-of new-order j h in subst Apart (p .2) (apart-new (p .0) (p .1));
+  }
     where
       Apart : ℕ → Type 0
       Apart j = (entry (step B r) d j ≡ suc (entry (step B r) 0 j)) ⊎ (entry (step B r) 0 j ≡ suc (entry (step B r) d j))
+
       next-apart : (b e o : ℕ) → (o ≡ suc e) ⊎ (e ≡ suc o) → (e + o ≡ suc (nextEven b e o)) ⊎ (nextEven b e o ≡ suc (e + o))
       next-apart zero e o (inl p) = inl (omega arith)
       next-apart zero e o (inr p) = inr (omega arith)
       next-apart (suc b) e o (inl p) = inr (omega arith)
       next-apart (suc b) e o (inr p) = inl (omega arith)
+
       apart-new : (k : ℕ) → k < d → Apart (getD (stepOrder S r) k 0)
       apart-new k h =
           let j = getD (stepOrder S r) k 0 in
@@ -268,7 +289,7 @@ module _ {d : ℕ} {B : Matrix} {S : List ℕ} (C : Stairs d B S) (r : List ℕ)
           let low = st .lower d h (omega arith) in
           let up = st .upper 0 (omega arith) in
           ⊎-elim (λ e. inl (low ∙ e ∙ ap suc (sym up))) (λ e. inr (up ∙ e ∙ ap suc (sym low)))
-            (next-apart (getD r k 0) (entry B 0 j) (entry B d j) (C .apart j (new-order .inside k h)))
+          (next-apart (getD r k 0) (entry B 0 j) (entry B d j) (C .apart j (new-order .inside k h)))
 
 -- ---- signs
 
@@ -323,7 +344,7 @@ turn-at signs (i ∷ S) (suc b ∷ r) zero e h c l =
     ∙ getD-set-same signs i (negℤ (getD signs i (pos 0))) (pos 0) l
 turn-at signs (i ∷ S) (zero ∷ r) (suc k) e h c l =
     turn-at signs S r k (omega arith) (le-of-suc-le-suc h)
-      (omega (arith, count-at (getD S k 0) S k (le-of-suc-le-suc h) refl)) l
+    (omega (arith, count-at (getD S k 0) S k (le-of-suc-le-suc h) refl)) l
 turn-at signs (i ∷ S) (suc b ∷ r) (suc k) e h c l =
     let s = negℤ (getD signs i (pos 0)) in
     let more = count-at (getD S k 0) S k (le-of-suc-le-suc h) refl in
@@ -357,19 +378,19 @@ module _ {d : ℕ} {B : Matrix} {S : List ℕ} (C : Stairs d B S) (r : List ℕ)
       ∙ next-sign (getD r k 0) (entry B 0 j) (entry B d j) (C .apart j (new .inside k h))
       ∙ ap (turned (getD r k 0)) (sym (getD-signsOf d B j (new .inside k h)))
       ∙ sym (turn-at (signsOf d B) (stepOrder S r) r k (length-stepOrder S r) (omega (arith, length-stepOrder S r))
-          (new .once j (new .inside k h)) (omega (arith, length-signsOf d B, new .inside k h)))
+      (new .once j (new .inside k h)) (omega (arith, length-signsOf d B, new .inside k h)))
 
   -- The signs after a step are those that the rule gives.
   pub signs-step : signsOf d (step B r) ≡ stepSigns (signsOf d B) S r
   unfolding stepSigns
   signs-step =
       ext-getD (pos 0) (signsOf d (step B r)) (turn (signsOf d B) (stepOrder S r) r)
-        (length-signsOf d (step B r) ∙ sym (length-signsOf d B) ∙ sym (length-turn (signsOf d B) (stepOrder S r) r))
-        (λ j h.
-          let p = place-of (new-order C r long) j (omega (arith, length-signsOf d (step B r))) in
-          subst
-            (λ c. getD (signsOf d (step B r)) c (pos 0) ≡ getD (turn (signsOf d B) (stepOrder S r) r) c (pos 0))
-            (p .2) (sign-at (p .0) (p .1)))
+      (length-signsOf d (step B r) ∙ sym (length-signsOf d B) ∙ sym (length-turn (signsOf d B) (stepOrder S r) r))
+      (λ j h.
+      let p = place-of (new-order C r long) j (omega (arith, length-signsOf d (step B r))) in
+      subst
+      (λ c. getD (signsOf d (step B r)) c (pos 0) ≡ getD (turn (signsOf d B) (stepOrder S r) r) c (pos 0))
+      (p .2) (sign-at (p .0) (p .1)))
 
 -- ---- the theorems
 
@@ -390,6 +411,7 @@ one-order {d} {B} S U M N =
   where
     differ : (k : ℕ) → k < d → entry B k (getD S k 0) ≡ entry B (suc k) (getD S k 0) → ⊥
     differ k h e = ⊎-elim (λ p. omega arith) (λ p. omega arith) (M .next k h .here)
+
     go : (k : ℕ) → k < d → Dec (getD S k 0 ≡ getD U k 0) → getD S k 0 ≡ getD U k 0
     go k h (yes e) = e
     go k h (no n) = absurd (differ k h (N .next k h .elsewhere (getD S k 0) n))

@@ -3,7 +3,7 @@
 -- Assumes nothing.
 use Prim.Native.Nat.{ℕ, zero, suc, pred, _+_, _-_, _*_, _≤_, _<_}
 use mathlib.Core.Path.{_≡_, refl, sym, ap, ap₂, _∙_}
-use mathlib.Core.List.{List, [], _∷_, map}
+use mathlib.Core.List.{List, [], _∷_}
 use native.Mathlib.Nat.{le-of-suc-le-suc, not-suc-le-zero, two-mul}
 use native.Mathlib.Numerals.{sub-one}
 use native.Mathlib.Omega.{arith}
@@ -169,8 +169,8 @@ wide-step d B r e w zero h = length-doubleRow (row B (ones r)) ∙ w (ones r) (o
 wide-step d B r e w (suc i) h =
     ap length (row-step-suc B r i (omega arith))
     ∙ length-addRows d (row B (rowX r (suc i))) (row B (rowY r (suc i)))
-      (w (rowX r (suc i)) (omega (arith, rowX-inside r (suc i))))
-      (w (rowY r (suc i)) (omega (arith, rowY-inside r (suc i) (omega arith))))
+    (w (rowX r (suc i)) (omega (arith, rowX-inside r (suc i))))
+    (w (rowY r (suc i)) (omega (arith, rowY-inside r (suc i) (omega arith))))
 
 -- ---- the new order, by place
 

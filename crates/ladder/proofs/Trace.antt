@@ -5,23 +5,23 @@ use Prim.Native.Nat.{ℕ, zero, suc, pred, _+_, _-_, _*_, _≤_, _<_}
 use mathlib.Core.Path.{_≡_, refl, sym, ap, ap₂, subst, _∙_}
 use mathlib.Core.Logic.{_≢_, _⊎_, inl, inr, ⊎-elim}
 use mathlib.Core.Bool.{Bool, true, false, not, cond}
-use mathlib.Core.List.{List, [], _∷_, _++_, map, map-append, flatten, append-assoc}
-use native.Mathlib.Nat.{le-of-suc-le-suc, not-suc-le-zero, zero-mul, suc-mul, mul-assoc, le-refl}
+use mathlib.Core.List.{List, [], _∷_, _++_, map, flatten, append-assoc}
+use native.Mathlib.Nat.{zero-mul, suc-mul, mul-assoc, le-refl}
 use native.Mathlib.Decide.{ℕ-discrete, decLe}
 use native.Mathlib.Omega.{arith}
 use lib.Dec.{T, ltb, ltb→lt, nltb→le}
 use lib.IntN.{ℤ, pos, negsuc, subℕ}
 use lib.ListN.{length, getD, set, length-map, length-append, length-set, List·getD-eq-default}
 use lib.Seq.{ext-getD, getD-set-same, getD-set-other}
-use Rattle.ladder.specs.Lists.{tabulate, joined, same, ones}
+use Rattle.ladder.specs.Lists.{joined, ones}
 use Rattle.ladder.specs.Numbers.{traceLength}
-use Rattle.ladder.specs.Matrix.{Row, Matrix, row, entry, StateMatrix, signOf, signsOf, Pair, pairsFrom, additions, stepOrder}
+use Rattle.ladder.specs.Matrix.{Row, Matrix, row, entry, signOf, Pair, pairsFrom, additions, stepOrder}
 use Rattle.ladder.specs.Plan.{Plan, matrixIn, stepBits}
 use Rattle.ladder.specs.Trace.{difference, Entry, operations, entryOf, block, blockIn, entriesIn, signedByte, entryBytes, traceBytes, doublings, additionCount}
 use Rattle.ladder.proofs.Lists.{length-tabulate, getD-tabulate, same-self, same-other, length-joined}
-use Rattle.ladder.proofs.Step.{onesTo-le, onesTo-between, onesTo-all, onesTo-one, onesTo-zero, rowX, rowY, rowX-inside, rowY-inside, length-pairsFrom, length-additions, additions-x, additions-y, stepOrder-one, stepOrder-zero}
+use Rattle.ladder.proofs.Step.{onesTo-le, onesTo-between, onesTo-all, onesTo-one, onesTo-zero, rowX, rowY, rowX-inside, rowY-inside, length-additions, stepOrder-one, stepOrder-zero}
 use Rattle.ladder.proofs.Order.{place-of, place-once}
-use Rattle.ladder.proofs.State.{Stairs, stairs, new-order, sign-up, sign-down, getD-signsOf}
+use Rattle.ladder.proofs.State.{Stairs, new-order, sign-up, sign-down}
 use Rattle.ladder.proofs.Bits.{length-stepBits}
 
 -- ---- differences of numbers
@@ -80,13 +80,13 @@ module _ {d : ℕ} {B : Matrix} {S : List ℕ} (C : Stairs d B S) (x y : ℕ) (u
   vector-above k h p =
       difference-at d (row B y) (row B x) (getD S k 0) (C .order .inside k h)
       ∙ sub-same (entry B y (getD S k 0)) (entry B x (getD S k 0))
-        (C .stair k h .lower y (omega arith) inside ∙ sym (C .stair k h .lower x p (omega arith)))
+      (C .stair k h .lower y (omega arith) inside ∙ sym (C .stair k h .lower x p (omega arith)))
 
   pub vector-below : (k : ℕ) → k < d → y ≤ k → getD (difference d (row B y) (row B x)) (getD S k 0) (pos 0) ≡ pos 0
   vector-below k h p =
       difference-at d (row B y) (row B x) (getD S k 0) (C .order .inside k h)
       ∙ sub-same (entry B y (getD S k 0)) (entry B x (getD S k 0))
-        (C .stair k h .upper y p ∙ sym (C .stair k h .upper x (omega arith)))
+      (C .stair k h .upper y p ∙ sym (C .stair k h .upper x (omega arith)))
 
   sign-unit : (j : ℕ) → j < d → IsUnit (signOf (entry B 0 j) (entry B d j))
   unfolding IsUnit
@@ -103,20 +103,23 @@ module _ {d : ℕ} {B : Matrix} {S : List ℕ} (C : Stairs d B S) (x y : ℕ) (u
       at k h (yes p) (yes q) = inr (subst IsUnit (sym (vector-between k h p q)) (sign-unit (getD S k 0) (C .order .inside k h)))
       at k h (yes p) (no q) = inl (vector-below k h (omega arith))
       at k h (no p) q = inl (vector-above k h (omega arith))
+
       go : Dec (j < d) → IsSmall (getD (difference d (row B y) (row B x)) j (pos 0))
       go (yes h) =
           let p = place-of (C .order) j h in
           subst (λ c. IsSmall (getD (difference d (row B y) (row B x)) c (pos 0))) (p .2)
-            (at (p .0) (p .1) (decLe x (p .0)) (decLe (suc (p .0)) y))
+          (at (p .0) (p .1) (decLe x (p .0)) (decLe (suc (p .0)) y))
       go (no h) =
           inl (List·getD-eq-default (difference d (row B y) (row B x)) (pos 0) (omega (arith, length-difference d (row B y) (row B x))))
 
   -- .. and where the two rows are two, not all of them are 0.
   pub vector-not-zero : x < y → (j : ℕ) × (j < d) × IsUnit (getD (difference d (row B y) (row B x)) j (pos 0))
   vector-not-zero h =
-      let q : x < d = omega arith in
-      (getD S x 0, C .order .inside x q,
-        subst IsUnit (sym (vector-between x q (omega arith) h)) (sign-unit (getD S x 0) (C .order .inside x q)))
+      let q : x < d = omega arith in (
+        getD S x 0,
+        C .order .inside x q,
+        subst IsUnit (sym (vector-between x q (omega arith) h)) (sign-unit (getD S x 0) (C .order .inside x q)),
+      )
 
 -- ---- the rows of a step's operations
 
@@ -141,57 +144,73 @@ module _ {d : ℕ} {B : Matrix} {S : List ℕ} (C : Stairs d B S) (r : List ℕ)
     where
       b : i < length r
       b = omega arith
+
       go : Dec (getD r i 0 ≡ 0) → (k : ℕ) × (k < d) × (getD S k 0 ≡ getD (stepOrder S r) i 0)
           × (rowX r (suc i) ≤ k) × (k < rowY r (suc i)) × ((m : ℕ) → m ≢ k → rowX r (suc i) ≤ m → m < rowY r (suc i) → (rowX r i ≤ m) × (m < rowY r i))
       go (yes e) =
           let z = onesTo-zero r i b e in
-          let s = onesTo-le r i in
-          (rowY r i, omega (arith, rowY-inside r (suc i) b), sym (stepOrder-zero S r i b e), omega arith, omega arith,
-            λ m n p q. (omega arith, omega arith))
+          let s = onesTo-le r i in (
+            rowY r i,
+            omega (arith, rowY-inside r (suc i) b),
+            sym (stepOrder-zero S r i b e),
+            omega arith,
+            omega arith,
+            λ m n p q. (omega arith, omega arith),
+          )
       go (no e) =
           let o = onesTo-one r i b (omega arith) in
-          let most = onesTo-between r (suc i) (length r) b .0 in
-          (rowX r (suc i), omega (arith, onesTo-all r, rowX-inside r i), sym (stepOrder-one S r i b (omega arith)), omega arith,
+          let most = onesTo-between r (suc i) (length r) b .0 in (
+            rowX r (suc i),
+            omega (arith, onesTo-all r, rowX-inside r i),
+            sym (stepOrder-one S r i b (omega arith)),
+            omega arith,
             rows-apart r i b,
-            λ m n p q. (omega (arith, onesTo-all r), omega arith))
+            λ m n p q. (omega (arith, onesTo-all r), omega arith),
+          )
 
   pub vector-next : (i : ℕ) → i < d
       → vector (suc i)
       ≡ set (vector i) (getD (stepOrder S r) i 0)
-        (signOf (entry B 0 (getD (stepOrder S r) i 0)) (entry B d (getD (stepOrder S r) i 0)))
+      (signOf (entry B 0 (getD (stepOrder S r) i 0)) (entry B d (getD (stepOrder S r) i 0)))
   vector-next i h =
       ext-getD (pos 0) (vector (suc i)) (set (vector i) j s)
-        (length-difference d (row B (rowY r (suc i))) (row B (rowX r (suc i)))
-        ∙ sym (length-set (vector i) j s ∙ length-difference d (row B (rowY r i)) (row B (rowX r i))))
-        (λ c l.
-          let q : c < d = omega (arith, length-difference d (row B (rowY r (suc i))) (row B (rowX r (suc i)))) in
-          let p = place-of (C .order) c q in
-          subst (λ e. getD (vector (suc i)) e (pos 0) ≡ getD (set (vector i) j s) e (pos 0)) (p .2)
-            (at (p .0) (p .1) (ℕ-discrete (p .0) (added-place i h .0)) (decLe (rowX r (suc i)) (p .0)) (decLe (suc (p .0)) (rowY r (suc i)))))
+      (length-difference d (row B (rowY r (suc i))) (row B (rowX r (suc i)))
+      ∙ sym (length-set (vector i) j s ∙ length-difference d (row B (rowY r i)) (row B (rowX r i))))
+      (λ c l.
+      let q : c < d = omega (arith, length-difference d (row B (rowY r (suc i))) (row B (rowX r (suc i)))) in
+      let p = place-of (C .order) c q in
+      subst (λ e. getD (vector (suc i)) e (pos 0) ≡ getD (set (vector i) j s) e (pos 0)) (p .2)
+      (at (p .0) (p .1) (ℕ-discrete (p .0) (added-place i h .0)) (decLe (rowX r (suc i)) (p .0)) (decLe (suc (p .0)) (rowY r (suc i)))))
     where
       j : ℕ
       j = getD (stepOrder S r) i 0
+
       s : ℤ
       s = signOf (entry B 0 j) (entry B d j)
+
       last : rowY r (suc i) ≤ d
       last = omega (arith, rowY-inside r (suc i) (omega arith))
+
       until : rowY r i ≤ d
       until = omega (arith, rowY-inside r i (omega arith))
+
       Agree : ℕ → Type 0
       Agree m = getD (vector (suc i)) (getD S m 0) (pos 0) ≡ getD (set (vector i) j s) (getD S m 0) (pos 0)
+
       kept : (m : ℕ) → m < d → m ≢ added-place i h .0 → getD (set (vector i) j s) (getD S m 0) (pos 0) ≡ getD (vector i) (getD S m 0) (pos 0)
       kept m b n =
           getD-set-other (vector i) j (getD S m 0) s (pos 0)
-            (λ e. n (place-once (C .order) m (added-place i h .0) b (added-place i h .1) (e ∙ sym (added-place i h .2))))
+          (λ e. n (place-once (C .order) m (added-place i h .0) b (added-place i h .1) (e ∙ sym (added-place i h .2))))
+
       at : (m : ℕ) → m < d → Dec (m ≡ added-place i h .0) → Dec (rowX r (suc i) ≤ m) → Dec (suc m ≤ rowY r (suc i)) → Agree m
       at m b (yes e) x y =
           let k = added-place i h in
           subst (λ (n : ℕ). Agree n) (sym e)
-            (vector-between C (rowX r (suc i)) (rowY r (suc i)) (in-order (suc i)) last (k .0) (k .1) (k .3) (k .4)
-            ∙ ap (λ c. signOf (entry B 0 c) (entry B d c)) (k .2)
-            ∙ sym (getD-set-same (vector i) j s (pos 0)
-                (omega (arith, length-difference d (row B (rowY r i)) (row B (rowX r i)), new-order C r long .inside i h)))
-            ∙ ap (λ c. getD (set (vector i) j s) c (pos 0)) (sym (k .2)))
+          (vector-between C (rowX r (suc i)) (rowY r (suc i)) (in-order (suc i)) last (k .0) (k .1) (k .3) (k .4)
+          ∙ ap (λ c. signOf (entry B 0 c) (entry B d c)) (k .2)
+          ∙ sym (getD-set-same (vector i) j s (pos 0)
+          (omega (arith, length-difference d (row B (rowY r i)) (row B (rowX r i)), new-order C r long .inside i h)))
+          ∙ ap (λ c. getD (set (vector i) j s) c (pos 0)) (sym (k .2)))
       at m b (no n) (yes x) (yes y) =
           let w = added-place i h .5 m n x y in
           vector-between C (rowX r (suc i)) (rowY r (suc i)) (in-order (suc i)) last m b x y
@@ -200,12 +219,12 @@ module _ {d : ℕ} {B : Matrix} {S : List ℕ} (C : Stairs d B S) (r : List ℕ)
       at m b (no n) (yes x) (no y) =
           vector-below C (rowX r (suc i)) (rowY r (suc i)) (in-order (suc i)) last m b (omega arith)
           ∙ sym (vector-below C (rowX r i) (rowY r i) (in-order i) until m b
-              (omega (arith, onesTo-between r i (suc i) (omega arith) .1, onesTo-le r i, onesTo-le r (suc i))))
+          (omega (arith, onesTo-between r i (suc i) (omega arith) .1, onesTo-le r i, onesTo-le r (suc i))))
           ∙ sym (kept m b n)
       at m b (no n) (no x) y =
           vector-above C (rowX r (suc i)) (rowY r (suc i)) (in-order (suc i)) last m b (omega arith)
           ∙ sym (vector-above C (rowX r i) (rowY r i) (in-order i) until m b
-              (omega (arith, onesTo-between r i (suc i) (omega arith) .0)))
+          (omega (arith, onesTo-between r i (suc i) (omega arith) .0)))
           ∙ sym (kept m b n)
 
 -- ---- counts
@@ -263,7 +282,7 @@ pub trace-additions : (p : Plan) → additionCount (entriesIn p) ≡ p .l * p .d
 unfolding entriesIn blockIn
 trace-additions p =
     blocks-additions (p .d) (p .l) (blockIn p)
-      (λ s. block-additions (p .d) (matrixIn p s) (stepBits p s) ∙ length-stepBits p s)
+    (λ s. block-additions (p .d) (matrixIn p s) (stepBits p s) ∙ length-stepBits p s)
 
 -- ---- bytes
 
@@ -284,8 +303,14 @@ unfolding traceBytes flatten entryBytes entryOf
 length-entries d B [] = sym (zero-mul (d + 2))
 length-entries d B (q ∷ l) =
     let v = difference d (row B (q .y)) (row B (q .x)) in
-    omega (arith, length-append (map signedByte v) (traceBytes (map (entryOf d B) l)), length-map v signedByte,
-      length-difference d (row B (q .y)) (row B (q .x)), length-entries d B l, suc-mul (length l) (d + 2))
+    omega (
+      arith,
+      length-append (map signedByte v) (traceBytes (map (entryOf d B) l)),
+      length-map v signedByte,
+      length-difference d (row B (q .y)) (row B (q .x)),
+      length-entries d B l,
+      suc-mul (length l) (d + 2),
+    )
 
 length-block : (d : ℕ) (B : Matrix) (r : List ℕ) → length r ≡ d → length (traceBytes (block d B r)) ≡ (d + 1) * (d + 2)
 unfolding block operations
@@ -298,5 +323,5 @@ unfolding entriesIn blockIn traceLength
 trace-length p =
     ap length (traceBytes-joined (p .l) (blockIn p))
     ∙ length-joined ((p .d + 1) * (p .d + 2)) (p .l) (λ s. traceBytes (blockIn p s))
-      (λ s h. length-block (p .d) (matrixIn p s) (stepBits p s) (length-stepBits p s))
+    (λ s h. length-block (p .d) (matrixIn p s) (stepBits p s) (length-stepBits p s))
     ∙ sym (mul-assoc (p .l) (p .d + 1) (p .d + 2))

@@ -56,11 +56,12 @@ encodedBits l scalars E s = deal l scalars (orderToGo l scalars E (l - suc s)) s
 -- The plan that scalars and an end order give. The answer row is 1 + the number of odd scalars.
 unfoldable pub encodeWith : ℕ → ℕ → List ℕ → List ℕ → Plan
 encodeWith d l scalars E = record {
-    d = d;
-    l = l;
-    start = map suc (encodedStart l scalars E);
-    bits = packBits (joined l (encodedBits l scalars E));
-    answer = suc (odds scalars) }
+  d = d;
+  l = l;
+  start = map suc (encodedStart l scalars E);
+  bits = packBits (joined l (encodedBits l scalars E));
+  answer = suc (odds scalars);
+}
 
 -- The house order: columns with odd scalars rising, then columns with even scalars rising. For 1, 2, 3 it is 1 3 2 (here 0 2 1).
 unfoldable pub houseOrder : ℕ → List ℕ → List ℕ

@@ -1,9 +1,9 @@
 -- Lists that the definitions need: made from a rule, joined, counted.
 -- Assumes nothing.
 use Prim.Native.Nat.{ℕ, zero, suc, _+_, _%_}
-use mathlib.Core.Bool.{Bool, true, false, cond, _&&_}
+use mathlib.Core.Bool.{Bool, true, cond, _&&_}
 use mathlib.Core.List.{List, [], _∷_, _++_}
-use lib.Dec.{eqb, ltb}
+use lib.Dec.{eqb}
 
 -- The list f 0, f 1, .., f (n-1).
 unfoldable pub tabulate : {A : Type 0} → ℕ → (ℕ → A) → List A
@@ -14,7 +14,6 @@ tabulate (suc n) f = f zero ∷ tabulate n (λ k. f (suc k))
 unfoldable pub joined : {A : Type 0} → ℕ → (ℕ → List A) → List A
 joined zero f = []
 joined (suc n) f = joined n f ++ f n
-
 
 -- 1 where two numbers are the same, else 0.
 unfoldable pub same : ℕ → ℕ → ℕ
@@ -36,7 +35,7 @@ unfoldable pub odds : List ℕ → ℕ
 odds [] = 0
 odds (a ∷ u) = a % 2 + odds u
 
--- Every number of a list is below a bound.
-unfoldable pub allBelow : ℕ → List ℕ → Bool
-allBelow bound [] = true
-allBelow bound (n ∷ ns) = ltb n bound && allBelow bound ns
+-- Every element of a list passes a test.
+unfoldable pub all : {A : Type 0} → (A → Bool) → List A → Bool
+all test [] = true
+all test (a ∷ l) = test a && all test l

@@ -4,7 +4,7 @@ use Prim.Native.Nat.{ℕ, pred, _+_, _*_}
 use mathlib.Core.List.{List, map}
 use lib.IntN.{ℤ}
 use Rattle.ladder.specs.Lists.{tabulate}
-use Rattle.ladder.specs.Numbers.{bitAt}
+use Rattle.ladder.specs.Numbers.{bitAt, wordsOfAll, valueWords}
 use Rattle.ladder.specs.Matrix.{Row, Matrix, row, matrixAfter, orderAfter, signsAfter}
 
 -- The start order's columns and the answer row are counted from 1 here, as the rules and the bytes have them.
@@ -42,3 +42,7 @@ endOrder p = orderIn p (p .l)
 -- The answer row of the last matrix: what a plan decodes to.
 unfoldable pub answerRow : Plan → Row
 answerRow p = row (lastMatrix p) (pred (p .answer))
+
+-- What decoding writes: each entry of the answer row in floor(l / 64) + 1 words, in column order.
+unfoldable pub valuesIn : Plan → List ℕ
+valuesIn p = wordsOfAll (valueWords (p .l)) (answerRow p)

@@ -51,11 +51,12 @@ bodyIn file = take (distanceIn file) (drop (bodyPlace file) file)
 
 unfoldable pub planIn : List ℕ → Plan
 planIn file = record {
-    d = dIn file;
-    l = lIn file;
-    start = take (dIn file) (bodyIn file);
-    bits = drop (dIn file) (bodyIn file);
-    answer = answerIn file }
+  d = dIn file;
+  l = lIn file;
+  start = take (dIn file) (bodyIn file);
+  bits = drop (dIn file) (bodyIn file);
+  answer = answerIn file;
+}
 
 -- A number as two and as four bytes, low byte first.
 unfoldable pub twoBytes : ℕ → List ℕ

@@ -7,11 +7,11 @@ use mathlib.Core.List.{List, [], _∷_}
 use lib.Dec.{eqb, leb, ltb}
 use lib.IntN.{ℤ, pos, negsuc}
 use lib.ListN.{length, take, drop}
-use Rattle.ladder.specs.Lists.{count, allBelow}
+use Rattle.ladder.specs.Lists.{count, all}
 use Rattle.ladder.specs.Numbers.{numbersOf, scalarWords, scalarsLength, valuesLength, startLength, elementsLength, registersLength, bitsLength, traceLength}
 use Rattle.ladder.specs.Plan.{Plan}
 use Rattle.ladder.specs.Walk.{Walk}
-use Rattle.ladder.specs.PlanFile.{mark, trailerSize, bodyLength, fileLength, dIn, lIn, answerIn, distanceIn, markIn, planIn}
+use Rattle.ladder.specs.PlanFile.{mark, trailerSize, bodyLength, fileLength, dIn, lIn, distanceIn, markIn, planIn}
 
 -- ---- tests and their order
 
@@ -48,19 +48,16 @@ stepShape d n = unless (ltb n (2 ^ d)) 3
 
 -- 4 SCALAR: a scalar is 2^l or more.
 unfoldable pub scalar : ℕ → List ℕ → ℕ
-scalar l ks = unless (allBelow (2 ^ l) ks) 4
+scalar l ks = unless (all (λ k. ltb k (2 ^ l)) ks) 4
 
--- An arrangement of 1..d: d numbers, each from 1 to d, and each of 1..d once.
-unfoldable pub allWithin : ℕ → ℕ → List ℕ → Bool
-allWithin lo hi [] = true
-allWithin lo hi (n ∷ ns) = within lo hi n && allWithin lo hi ns
-
+-- Each of 1..n occurs once.
 unfoldable pub eachOnce : ℕ → List ℕ → Bool
 eachOnce zero S = true
 eachOnce (suc n) S = eqb (count (suc n) S) 1 && eachOnce n S
 
+-- An arrangement of 1..d: d numbers, each from 1 to d, and each of 1..d once.
 unfoldable pub isArrangement : ℕ → List ℕ → Bool
-isArrangement d S = eqb (length S) d && allWithin 1 d S && eachOnce d S
+isArrangement d S = eqb (length S) d && all (within 1 d) S && eachOnce d S
 
 -- 5 ORDER: the order isn't an arrangement of 1..d ..
 unfoldable pub order : ℕ → List ℕ → ℕ
@@ -75,16 +72,12 @@ unfoldable pub isZero : ℤ → Bool
 isZero (pos n) = eqb n 0
 isZero (negsuc n) = false
 
-unfoldable pub all : {A : Type 0} → (A → Bool) → List A → Bool
-all test [] = true
-all test (a ∷ rest) = test a && all test rest
-
 unfoldable pub walkOrder : Walk → ℕ
 walkOrder w =
     unless
-      (isArrangement (w .d) (take (w .d) (w .order)) && all isUnit (take (w .d) (w .signs))
-      && all (eqb 0) (drop (w .d) (w .order)) && all isZero (drop (w .d) (w .signs)))
-      5
+    (isArrangement (w .d) (take (w .d) (w .order)) && all isUnit (take (w .d) (w .signs))
+    && all (eqb 0) (drop (w .d) (w .order)) && all isZero (drop (w .d) (w .signs)))
+    5
 
 -- 6 ROW: answer row not 1..d+1.
 unfoldable pub answer : ℕ → ℕ → ℕ
@@ -97,7 +90,7 @@ tooLarge m = unless (leb m (2 ^ 63)) 7
 -- 8 ELEMENT: an element not below a modulus other than 0.
 unfoldable pub element : ℕ → List ℕ → ℕ
 element zero es = 0
-element (suc m) es = unless (allBelow (suc m) es) 8
+element (suc m) es = unless (all (λ e. ltb e (suc m)) es) 8
 
 -- 9 TRAILER: plan file shorter than 12 bytes, wrong mark ..
 unfoldable pub sameBytes : List ℕ → List ℕ → Bool
@@ -113,8 +106,8 @@ trailer file = unless (leb trailerSize (length file) && sameBytes (markIn file) 
 unfoldable pub distance : List ℕ → ℕ
 distance file =
     unless
-      (eqb (distanceIn file) (bodyLength (dIn file) (lIn file)) && leb (distanceIn file + trailerSize) (length file))
-      9
+    (eqb (distanceIn file) (bodyLength (dIn file) (lIn file)) && leb (distanceIn file + trailerSize) (length file))
+    9
 
 -- 10 BIG: more than 4,096 bytes of input.
 unfoldable pub big : List ℕ → ℕ

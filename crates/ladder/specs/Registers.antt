@@ -5,7 +5,7 @@ use mathlib.Core.List.{List, [], _∷_, map}
 use lib.IntN.{ℤ, pos, negsuc}
 use lib.ListN.{getD}
 use Rattle.ladder.specs.Lists.{ones}
-use Rattle.ladder.specs.Matrix.{Row, Matrix, row, matrixAfter, Pair, additions}
+use Rattle.ladder.specs.Matrix.{Row, Matrix, row, matrixAfter, additions}
 use Rattle.ladder.specs.Plan.{Plan, startOrder, stepBits}
 use Rattle.ladder.specs.Trace.{difference}
 
@@ -23,8 +23,8 @@ unfoldable pub stepRegisters : {A : Type 0} → Rule A → ℕ → Matrix → Li
 stepRegisters rule d B regs r =
     rule .double (getD regs (ones r) (rule .none))
     ∷ map
-      (λ p. rule .add (getD regs (p .x) (rule .none)) (getD regs (p .y) (rule .none)) (difference d (row B (p .y)) (row B (p .x))))
-      (additions r)
+    (λ p. rule .add (getD regs (p .x) (rule .none)) (getD regs (p .y) (rule .none)) (difference d (row B (p .y)) (row B (p .x))))
+    (additions r)
 
 -- The registers after n steps from a start order and start registers.
 unfoldable pub registersAfter : {A : Type 0} → Rule A → ℕ → List ℕ → (ℕ → List ℕ) → List A → ℕ → List A
@@ -62,16 +62,18 @@ signedSum m (c ∷ v) (e ∷ es) = timesSigned m c e + signedSum m v es
 -- The plain run adds register x and register y.
 unfoldable pub plainRule : ℕ → Rule ℕ
 plainRule m = record {
-    double = λ a. (a + a) % modulus m;
-    add = λ a b v. (a + b) % modulus m;
-    none = 0 }
+  double = λ a. (a + a) % modulus m;
+  add = λ a b v. (a + b) % modulus m;
+  none = 0;
+}
 
 -- The difference run takes twice register x plus the combination by the difference vector, with no use of register y.
 unfoldable pub differenceRule : ℕ → List ℕ → Rule ℕ
 differenceRule m es = record {
-    double = λ a. (a + a) % modulus m;
-    add = λ a b v. (2 * a + signedSum m v es) % modulus m;
-    none = 0 }
+  double = λ a. (a + a) % modulus m;
+  add = λ a b v. (2 * a + signedSum m v es) % modulus m;
+  none = 0;
+}
 
 -- The start registers: first 0, then each is the one before plus the element of the column at that place of the start order.
 unfoldable pub startFrom : ℕ → List ℕ → ℕ → List ℕ → List ℕ

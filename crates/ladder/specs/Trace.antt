@@ -1,6 +1,6 @@
 -- The trace: what each step adds to what, and the difference of the two rows.
 -- Assumes nothing.
-use Prim.Native.Nat.{ℕ, zero, suc, _+_, _-_}
+use Prim.Native.Nat.{ℕ, suc, _+_, _-_}
 use mathlib.Core.List.{List, [], _∷_, map, flatten}
 use lib.IntN.{ℤ, pos, negsuc, subℕ}
 use lib.ListN.{getD}

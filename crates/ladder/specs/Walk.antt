@@ -1,7 +1,7 @@
 -- A paused walk and its single step.
 -- Assumes nothing.
-use Prim.Native.Nat.{ℕ, zero, suc, pred, _-_, _/_, _%_, _^_}
-use mathlib.Core.List.{List, [], _∷_, _++_, map}
+use Prim.Native.Nat.{ℕ, suc, pred, _-_, _/_, _%_, _^_}
+use mathlib.Core.List.{List, _++_, map}
 use lib.IntN.{ℤ, pos}
 use lib.ListN.{take, replicate}
 use Rattle.ladder.specs.Lists.{tabulate}
@@ -20,9 +20,10 @@ bitsOf d n = tabulate d (λ k. n / 2 ^ (d - suc k) % 2)
 -- The walk state with this order, columns from 0, and these signs.
 unfoldable pub walkOf : ℕ → List ℕ → List ℤ → Walk
 walkOf d S signs = record {
-    d = d;
-    order = map suc S ++ replicate (8 - d) 0;
-    signs = signs ++ replicate (8 - d) (pos 0) }
+  d = d;
+  order = map suc S ++ replicate (8 - d) 0;
+  signs = signs ++ replicate (8 - d) (pos 0);
+}
 
 -- The order and the signs that a walk state holds.
 unfoldable pub orderOf : Walk → List ℕ
