@@ -11,7 +11,7 @@ use lib.ListN.{length, getD, take}
 use Rattle.ladder.specs.Lists.{count}
 use Rattle.ladder.specs.Matrix.{entry, Arrangement, matrixAfter, orderAfter, signsAfter}
 use Rattle.ladder.proofs.Order.{place-of}
-use Rattle.ladder.proofs.State.{getD-signsOf}
+use Rattle.ladder.proofs.Signs.{getD-signsOf}
 use Rattle.ladder.proofs.Ladder.{lower, state-after, stairs-after, signs-after, lower-after, lower-after-zero, sign-by-lower, entry-by-order}
 
 -- The binary digit that a sign stands for: 0 for +1, 1 for -1.

@@ -16,7 +16,9 @@ use Rattle.ladder.proofs.Lists.{getD-map, joined-same, odds-le}
 use Rattle.ladder.proofs.Numbers.{numbersOf-wordsOfAll, value-fits}
 use Rattle.ladder.proofs.Bits.{step-of-packed, pack-bits-of, bits-in-order, length-stepBits, stepBits-below}
 use Rattle.ladder.proofs.Ladder.{matrix-same, order-same, state-after}
-use Rattle.ladder.proofs.Encoding.{start-arranged, length-encodedBits, encodedBits-below, encoded-first-row, encoded-last-row, encoded-end, OddFirst, encoded-answer, house-arrangement, house-odd-first, neighbours, start-back, bits-back}
+use Rattle.ladder.proofs.HouseOrder.{house-arrangement, house-odd-first}
+use Rattle.ladder.proofs.OnePlan.{neighbours, start-back, bits-back}
+use Rattle.ladder.proofs.Encoding.{start-arranged, length-encodedBits, encodedBits-below, encoded-first-row, encoded-last-row, encoded-end, OddFirst, encoded-answer}
 use Rattle.ladder.proofs.Decoding.{walked, walkedEntry, entry-by-walk}
 use Rattle.ladder.proofs.Registers.{plain-registers}
 use Rattle.ladder.proofs.Walk.{pred-suc}

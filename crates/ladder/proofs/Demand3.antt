@@ -16,10 +16,10 @@ use Rattle.ladder.specs.Registers.{modulus, plainRegisters, differenceRe
 use Rattle.ladder.specs.Refusals.{runRefusal}
 use Rattle.ladder.proofs.Lists.{getD-map, ones-le}
 use Rattle.ladder.proofs.Step.{rowY-inside, length-additions, additions-x, additions-y, row-step-suc}
-use Rattle.ladder.proofs.State.{stairs}
+use Rattle.ladder.proofs.Stairs.{stairs}
 use Rattle.ladder.proofs.Ladder.{state-after, signs-after, entry-bound}
 use Rattle.ladder.proofs.Bits.{length-stepBits, stepBits-below}
-use Rattle.ladder.proofs.Trace.{IsUnit, IsSmall, vector-small, vector-not-zero, rows-apart, difference-at, sub-le}
+use Rattle.ladder.proofs.Vectors.{IsUnit, IsSmall, vector-small, vector-not-zero, rows-apart, difference-at, sub-le}
 use Rattle.ladder.proofs.Registers.{runs-agree}
 use Rattle.ladder.proofs.Refusals.{Accepted, run-accepted}
 

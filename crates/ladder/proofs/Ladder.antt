@@ -16,7 +16,9 @@ use Rattle.ladder.specs.Lists.{same, count}
 use Rattle.ladder.specs.Matrix.{Row, Matrix, row, entry, Arrangement, StateMatrix, signOf, signsOf, bump, rowsFrom, startMatrix, startSigns, step, stepOrder, stepSigns, matrixAfter, orderAfter, signsAfter}
 use Rattle.ladder.proofs.Lists.{same-is, same-self, count-append, count-at}
 use Rattle.ladder.proofs.Order.{place-of}
-use Rattle.ladder.proofs.State.{Stairs, stairs, from-stairs, nextEven, stair-step, new-order, sign-up, sign-down, length-signsOf, getD-signsOf, step-state, step-signs}
+use Rattle.ladder.proofs.Stairs.{Stairs, stairs, from-stairs, nextEven, stair-step, new-order}
+use Rattle.ladder.proofs.Signs.{sign-up, sign-down, length-signsOf, getD-signsOf}
+use Rattle.ladder.proofs.State.{step-state, step-signs}
 
 -- ---- the start matrix
 

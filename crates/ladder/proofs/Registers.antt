@@ -16,7 +16,7 @@ use Rattle.ladder.specs.Registers.{Rule, stepRegisters, registersAfter, 
 use Rattle.ladder.proofs.Lists.{getD-map, map-map, map-same, ones-le}
 use Rattle.ladder.proofs.Step.{rowY-inside, length-additions, additions-x, additions-y}
 use Rattle.ladder.proofs.Ladder.{length-bump, state-after}
-use Rattle.ladder.proofs.Trace.{sub-le, sub-lt, rows-apart}
+use Rattle.ladder.proofs.Vectors.{sub-le, sub-lt, rows-apart}
 
 -- ---- over any kind of value
 

@@ -15,7 +15,7 @@ use Rattle.ladder.specs.Matrix.{stepOrder, stepSigns, startSigns, orderA
 use Rattle.ladder.specs.Walk.{Walk, bitsOf, walkOf, orderOf, walkSigns, stepWalk}
 use Rattle.ladder.proofs.Lists.{tabulate-same}
 use Rattle.ladder.proofs.Step.{length-stepOrder}
-use Rattle.ladder.proofs.State.{length-turn}
+use Rattle.ladder.proofs.Signs.{length-turn}
 
 -- ---- what a walk state holds
 
