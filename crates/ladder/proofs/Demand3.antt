@@ -48,18 +48,6 @@ noPair : Pair
 noPair = record { x = 0; y = 0 }
 
 module _ {d : ℕ} {B : Matrix} {S : List ℕ} (M : StateMatrix d B S) (r : List ℕ) (long : length r ≡ d) where
-  -- The first entry of a step's block is a doubling ..
-  pub block-doubles : Doubles d B (row (step B r) 0) (getD (block d B r) 0 noEntry)
-  unfolding block operations entryOf step noEntry
-  block-doubles = record {
-    one-row = refl;
-    inside = omega (arith, ones-le r);
-    twice = refl;
-    zeros = λ j h.
-        difference-at d (row B (ones r)) (row B (ones r)) j h
-        ∙ sub-le (entry B (ones r) j) (entry B (ones r) j) (omega arith) ∙ ap pos (omega arith);
-  }
-
   pair-adds : (p : Pair) (new : Row) → p .x < p .y → p .y ≤ d → new ≡ addRows (row B (p .x)) (row B (p .y))
       → Adds d B new (entryOf d B p)
   unfolding entryOf
@@ -72,7 +60,7 @@ module _ {d : ℕ} {B : Matrix} {S : List ℕ} (M : StateMatrix d B S) (r : List
     not-zero = vector-not-zero (stairs M) (p .x) (p .y) (omega arith) l h;
   }
 
-  -- .. and each other one is an addition.
+  -- Each entry of a step's block but the first is an addition ..
   pub block-adds : (i : ℕ) → i < d → Adds d B (row (step B r) (suc i)) (getD (block d B r) (suc i) noEntry)
   unfolding block operations
   block-adds i h =
@@ -86,6 +74,18 @@ module _ {d : ℕ} {B : Matrix} {S : List ℕ} (M : StateMatrix d B S) (r : List
       (omega (arith, ex, ey, rows-apart r i b))
       (omega (arith, ey, rowY-inside r (suc i) b))
       (row-step-suc B r i b ∙ ap₂ (λ x y. addRows (row B x) (row B y)) (sym ex) (sym ey)))
+
+  -- .. and the first is a doubling.
+  pub block-doubles : Doubles d B (row (step B r) 0) (getD (block d B r) 0 noEntry)
+  unfolding block operations entryOf step noEntry
+  block-doubles = record {
+    one-row = refl;
+    inside = omega (arith, ones-le r);
+    twice = refl;
+    zeros = λ j h.
+        difference-at d (row B (ones r)) (row B (ones r)) j h
+        ∙ sub-le (entry B (ones r) j) (entry B (ones r) j) (omega arith) ∙ ap pos (omega arith);
+  }
 
   -- There are d+1 of them.
   pub length-block : length (block d B r) ≡ suc d

@@ -42,13 +42,13 @@ dealt-below l n s = omega arith
 
 -- ---- the bits dealt
 
-pub length-deal : (l : ℕ) (ks S : List ℕ) (s : ℕ) → length (deal l ks S s) ≡ length S
-unfolding deal
-length-deal l ks S s = length-map S (λ j. dealt l (getD ks j 0) s)
-
 pub deal-at : (l : ℕ) (ks S : List ℕ) (s k : ℕ) → k < length S → getD (deal l ks S s) k 0 ≡ dealt l (getD ks (getD S k 0) 0) s
 unfolding deal
 deal-at l ks S s k h = getD-map (λ j. dealt l (getD ks j 0) s) S k 0 0 h
+
+pub length-deal : (l : ℕ) (ks S : List ℕ) (s : ℕ) → length (deal l ks S s) ≡ length S
+unfolding deal
+length-deal l ks S s = length-map S (λ j. dealt l (getD ks j 0) s)
 
 pub deal-below : (l : ℕ) (ks S : List ℕ) (s k : ℕ) → getD (deal l ks S s) k 0 < 2
 deal-below l ks S s k = go (decLe (suc k) (length S))

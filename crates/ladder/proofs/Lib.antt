@@ -19,5 +19,5 @@ pub mod Tests
 pub mod Refusals
 pub mod Demand3
 pub mod Demand2
-pub mod Complete
-pub mod Cases
+pub mod SamePlan
+pub mod WorkedCases

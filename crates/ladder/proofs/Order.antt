@@ -105,28 +105,6 @@ length-passed (i ∷ S) [] e = absurd (omega arith)
 length-passed (i ∷ S) (zero ∷ r) e = omega (arith, length-passed S r (omega arith))
 length-passed (i ∷ S) (suc b ∷ r) e = omega (arith, length-passed S r (omega arith))
 
-count-reverseAux : (j : ℕ) (s t : List ℕ) → count j (reverseAux s t) ≡ count j s + count j t
-unfolding count
-count-reverseAux j [] t = omega arith
-count-reverseAux j (i ∷ s) t = omega (arith, count-reverseAux j s (i ∷ t))
-
--- The rearranging keeps every column's count ..
-pub count-rearrange : (j : ℕ) (S r : List ℕ) → length S ≡ length r → count j (rearrange S r) ≡ count j S
-unfolding rearrange count
-count-rearrange j S r e =
-    omega (arith, count-append j (reverse (picked S r)) (passed S r), count-reverseAux j (picked S r) [], count-picked j S r e)
-
-pub length-rearrange : (S r : List ℕ) → length S ≡ length r → length (rearrange S r) ≡ length r
-unfolding rearrange
-length-rearrange S r e =
-    omega (arith, length-append (reverse (picked S r)) (passed S r), length-reverse (picked S r), length-picked S r e, length-passed S r e)
-
--- .. so it keeps arrangements.
-pub arrangement-rearrange : {d : ℕ} {S : List ℕ} → Arrangement d S → (r : List ℕ) → length r ≡ d → Arrangement d (rearrange S r)
-arrangement-rearrange {d} {S} a r e =
-    arrangement-by-counts a (rearrange S r) (length-rearrange S r (a .long ∙ sym e) ∙ e)
-    (λ j. count-rearrange j S r (a .long ∙ sym e))
-
 -- ---- the step undoes the rearranging
 
 -- T is what is left of both ends with W between them: x stands at the end of the columns to be picked, y after W.
@@ -160,6 +138,30 @@ unfolding stepOrder rearrange
 stepOrder-rearrange S r e =
     forth S r [] (reverse (picked S r) ++ passed S r) (ones r) (ones r) e refl (sym (length-picked S r e))
     (omega (arith, length-picked S r e))
+
+-- ---- the rearranging keeps arrangements
+
+count-reverseAux : (j : ℕ) (s t : List ℕ) → count j (reverseAux s t) ≡ count j s + count j t
+unfolding count
+count-reverseAux j [] t = omega arith
+count-reverseAux j (i ∷ s) t = omega (arith, count-reverseAux j s (i ∷ t))
+
+-- The rearranging keeps every column's count ..
+pub count-rearrange : (j : ℕ) (S r : List ℕ) → length S ≡ length r → count j (rearrange S r) ≡ count j S
+unfolding rearrange count
+count-rearrange j S r e =
+    omega (arith, count-append j (reverse (picked S r)) (passed S r), count-reverseAux j (picked S r) [], count-picked j S r e)
+
+pub length-rearrange : (S r : List ℕ) → length S ≡ length r → length (rearrange S r) ≡ length r
+unfolding rearrange
+length-rearrange S r e =
+    omega (arith, length-append (reverse (picked S r)) (passed S r), length-reverse (picked S r), length-picked S r e, length-passed S r e)
+
+-- .. so it keeps arrangements.
+pub arrangement-rearrange : {d : ℕ} {S : List ℕ} → Arrangement d S → (r : List ℕ) → length r ≡ d → Arrangement d (rearrange S r)
+arrangement-rearrange {d} {S} a r e =
+    arrangement-by-counts a (rearrange S r) (length-rearrange S r (a .long ∙ sym e) ∙ e)
+    (λ j. count-rearrange j S r (a .long ∙ sym e))
 
 -- ---- the rearranging undoes the step
 

@@ -40,7 +40,7 @@ length-turn signs [] r = refl
 length-turn signs (j ∷ S) [] = refl
 length-turn signs (j ∷ S) (zero ∷ r) = length-turn signs S r
 length-turn signs (j ∷ S) (suc b ∷ r) =
-    length-turn (set signs j (negℤ (getD signs j (pos 0)))) S r ∙ length-set signs j (negℤ (getD signs j (pos 0)))
+    length-turn _ S r ∙ length-set signs j _
 
 -- A sign after a step that gives its column this bit.
 abbrev pub turned : ℕ → ℤ → ℤ
@@ -53,8 +53,7 @@ turn-none signs [] r j h = refl
 turn-none signs (i ∷ S) [] j h = refl
 turn-none signs (i ∷ S) (zero ∷ r) j h = turn-none signs S r j (omega arith)
 turn-none signs (i ∷ S) (suc b ∷ r) j h =
-    turn-none (set signs i (negℤ (getD signs i (pos 0)))) S r j (omega arith)
-    ∙ getD-set-other signs i j (negℤ (getD signs i (pos 0))) (pos 0) (omega (arith, same-is i j))
+    turn-none _ S r j (omega arith) ∙ getD-set-other signs i j _ (pos 0) (omega (arith, same-is i j))
 
 -- Turning reaches the column that stands at place k just where bit k is 1.
 pub turn-at : (signs : List ℤ) (S r : List ℕ) (k : ℕ) → length S ≡ length r → k < length S → count (getD S k 0) S ≡ 1
@@ -65,8 +64,7 @@ turn-at signs [] r k e h c l = absurd (not-suc-le-zero h)
 turn-at signs (i ∷ S) [] k e h c l = absurd (omega arith)
 turn-at signs (i ∷ S) (zero ∷ r) zero e h c l = turn-none signs S r i (omega (arith, same-is i i))
 turn-at signs (i ∷ S) (suc b ∷ r) zero e h c l =
-    turn-none (set signs i (negℤ (getD signs i (pos 0)))) S r i (omega (arith, same-is i i))
-    ∙ getD-set-same signs i (negℤ (getD signs i (pos 0))) (pos 0) l
+    turn-none _ S r i (omega (arith, same-is i i)) ∙ getD-set-same signs i _ (pos 0) l
 turn-at signs (i ∷ S) (zero ∷ r) (suc k) e h c l =
     turn-at signs S r k (omega arith) (le-of-suc-le-suc h)
     (omega (arith, count-at (getD S k 0) S k (le-of-suc-le-suc h) refl)) l
