@@ -104,3 +104,9 @@ cases-hold = (
     ),
   ),
 )
+
+-- Table 4 of the source is the plan of 73 and 59 with end order 2 1 (here 1 0): the same start order and answer, other bits.
+pub table-four : encodeWith 2 7 (73 ∷ 59 ∷ []) (1 ∷ 0 ∷ [])
+    ≡ record { d = 2; l = 7; start = 1 ∷ 2 ∷ []; bits = 0x72 ∷ 0xd4 ∷ []; answer = 3 }
+unfolding tabulate joined odds byteOf bytesFor packBits scalarBit xor dealt deal picked passed rearrange orderToGo encodedStart encodedBits encodeWith
+table-four = refl
