@@ -1,0 +1,52 @@
+// The length of each buffer, 0 where d or l is out of range: a huge d or l must not wrap on the way to its refusal.
+use crate::ranges::within;
+ghost use mathlib.Core.Path.{_≡_};
+ghost use mathlib.Core.Bool.{_&&_};
+ghost use Rattle.ladder.specs.Numbers.{scalarsLength, valuesLength, bitsLength, traceLength};
+ghost use Rattle.ladder.specs.Refusals.{within};
+ghost use Rattle.refuse.specs.Inner.{inRange, sized};
+
+fn in_range(d: u64, l: u64) -> bool
+    ensures { λ r. ⌜ r ≡ inRange d l ⌝ }
+{
+    if !within(1, 8, d) {
+        return false;
+    }
+    within(1, 576, l)
+}
+
+pub fn scalars_length(d: u64, l: u64) -> u64
+    ensures { λ r. ⌜ r ≡ sized d l (scalarsLength d l) ⌝ }
+{
+    if !in_range(d, l) {
+        return 0;
+    }
+    d * ((l + 63) / 64)
+}
+
+pub fn values_length(d: u64, l: u64) -> u64
+    ensures { λ r. ⌜ r ≡ sized d l (valuesLength d l) ⌝ }
+{
+    if !in_range(d, l) {
+        return 0;
+    }
+    d * (l / 64 + 1)
+}
+
+pub fn bits_length(d: u64, l: u64) -> u64
+    ensures { λ r. ⌜ r ≡ sized d l (bitsLength d l) ⌝ }
+{
+    if !in_range(d, l) {
+        return 0;
+    }
+    (l * d + 7) / 8
+}
+
+pub fn trace_length(d: u64, l: u64) -> u64
+    ensures { λ r. ⌜ r ≡ sized d l (traceLength d l) ⌝ }
+{
+    if !in_range(d, l) {
+        return 0;
+    }
+    l * (d + 1) * (d + 2)
+}

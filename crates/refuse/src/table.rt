@@ -1,0 +1,85 @@
+// A function for each number of the table, and the first refusal that applies.
+use crate::orders::arrangement;
+use crate::ranges::within;
+ghost use Prim.Native.Nat.{_^_};
+ghost use mathlib.Core.Path.{_≡_};
+ghost use lib.Dec.{eqb, ltb};
+ghost use Rattle.ladder.specs.Refusals.{_then_, unless, within, dim, len, order, answer, planRefusal};
+ghost use Rattle.refuse.specs.Inner.{planRead};
+
+pub const OK: u64 = 0;
+
+pub const DIM: u64 = 1;
+
+pub const LENGTH: u64 = 2;
+
+pub const SHAPE: u64 = 3;
+
+pub const SCALAR: u64 = 4;
+
+pub const ORDER: u64 = 5;
+
+pub const ROW: u64 = 6;
+
+// The first of two refusals that applies.
+pub fn first(a: u64, b: u64) -> u64
+    ensures { λ r. ⌜ r ≡ a then b ⌝ }
+{
+    if a == OK { b } else { a }
+}
+
+// Refusal n where x lies outside lo..hi.
+fn outside(x: u64, lo: u64, hi: u64, n: u64) -> u64
+    ensures { λ r. ⌜ r ≡ unless (within lo hi x) n ⌝ }
+{
+    if within(lo, hi, x) { OK } else { n }
+}
+
+pub fn dim(d: u64) -> u64
+    ensures { λ r. ⌜ r ≡ dim d ⌝ }
+{
+    outside(d, 1, 8, DIM)
+}
+
+pub fn len(l: u64) -> u64
+    ensures { λ r. ⌜ r ≡ len l ⌝ }
+{
+    outside(l, 1, 576, LENGTH)
+}
+
+// A buffer of `have` elements that must have `want`.
+pub fn shape(have: usize, want: u64) -> u64
+    ensures { λ r. ⌜ r ≡ unless (eqb have want) 3 ⌝ }
+{
+    if have as u64 == want { OK } else { SHAPE }
+}
+
+pub fn order(d: u64, start: &[u8]) -> u64
+    ensures { λ r. ⌜ r ≡ order d (now (start .entry)) ⌝ }
+{
+    if arrangement(d, start) { OK } else { ORDER }
+}
+
+// Row 1..d+1, without the sum that wraps at the largest d.
+pub fn answer(d: u64, row: u64) -> u64
+    ensures { λ r. ⌜ r ≡ answer d row ⌝ }
+{
+    if row == 0 {
+        return ROW;
+    }
+    if d < row - 1 {
+        return ROW;
+    }
+    OK
+}
+
+// The refusal of a plan that is read; `shapes` is what stands at number 3.
+pub fn plan(d: u64, l: u64, start: &[u8], row: u64, shapes: u64) -> u64
+    ensures { λ r. ⌜ r ≡ planRefusal (planRead d l (now (start .entry)) row) shapes ⌝ }
+{
+    let early = first(dim(d), first(len(l), shapes));
+    if early != OK {
+        return early;
+    }
+    first(order(d, start), answer(d, row))
+}
