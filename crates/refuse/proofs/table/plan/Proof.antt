@@ -2,6 +2,7 @@
 -- Assumes nothing.
 use mathlib.Core.Path.{_∙_, ap₂}
 use Rattle.ladder.specs.Refusals.{order, answer}
+use Rattle.ladder.specs.Refusals.{_then_}
 use Rattle.refuse.specs.Inner.{planRead}
 use Rattle.refuse.proofs.Laws.{plan-early, plan-late}
 use mathlib.Core.Path.{_∙_}
