@@ -6,27 +6,14 @@ use mathlib.Core.Path.{_≡_, sym, ap, subst, _∙_}
 use mathlib.Core.Logic.{⊎-elim}
 use mathlib.Core.List.{List}
 use native.Mathlib.Omega.{arith}
-use lib.IntN.{ℤ, pos, negsuc}
+use lib.IntN.{pos}
 use lib.ListN.{length, getD, take}
 use Rattle.ladder.specs.Lists.{count}
 use Rattle.ladder.specs.Matrix.{entry, Arrangement, matrixAfter, orderAfter, signsAfter}
+use Rattle.ladder.specs.Inner.Decoding.{digit, walked, walkedEntry}
 use Rattle.ladder.proofs.Order.{place-of}
 use Rattle.ladder.proofs.Signs.{getD-signsOf}
 use Rattle.ladder.proofs.Ladder.{lower, state-after, stairs-after, signs-after, lower-after, lower-after-zero, sign-by-lower, entry-by-order}
-
--- The binary digit that a sign stands for: 0 for +1, 1 for -1.
-unfoldable pub digit : ℤ → ℕ
-digit (pos n) = 0
-digit (negsuc n) = 1
-
--- The number whose binary digits, top first, are the signs of column j after each of n steps.
-unfoldable pub walked : ℕ → List ℕ → (ℕ → List ℕ) → ℕ → ℕ → ℕ
-walked d S r zero j = 0
-walked d S r (suc n) j = 2 * walked d S r n j + digit (getD (signsAfter d S r (suc n)) j (pos 0))
-
--- The one of m and m + 1 that is odd where the column stands above row i, and even where it does not.
-unfoldable pub walkedEntry : ℕ → ℕ → List ℕ → ℕ → ℕ
-walkedEntry m i S j = m + (m + count j (take i S)) % 2
 
 module _ {d : ℕ} {S : List ℕ} (a : Arrangement d S) (r : ℕ → List ℕ) (long : (s : ℕ) → length (r s) ≡ d)
     (small : (s k : ℕ) → getD (r s) k 0 < 2) where

@@ -19,7 +19,8 @@ use Rattle.ladder.proofs.Ladder.{matrix-same, order-same, state-after}
 use Rattle.ladder.proofs.HouseOrder.{house-arrangement, house-odd-first}
 use Rattle.ladder.proofs.OnePlan.{neighbours, start-back, bits-back}
 use Rattle.ladder.proofs.Encoding.{start-arranged, length-encodedBits, encodedBits-below, encoded-first-row, encoded-last-row, encoded-end, OddFirst, encoded-answer}
-use Rattle.ladder.proofs.Decoding.{walked, walkedEntry, entry-by-walk}
+use Rattle.ladder.specs.Inner.Decoding.{walked, walkedEntry}
+use Rattle.ladder.proofs.Decoding.{entry-by-walk}
 use Rattle.ladder.proofs.Registers.{plain-registers}
 use Rattle.ladder.proofs.Walk.{pred-suc}
 use Rattle.ladder.proofs.Refusals.{Accepted}

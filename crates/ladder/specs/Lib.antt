@@ -13,3 +13,5 @@ pub mod Registers
 pub mod Walk
 pub mod PlanFile
 pub mod Refusals
+-- Not to be believed: what only inner contracts need.
+pub mod Inner

@@ -1,11 +1,9 @@
 -- `plan` meets its contract: the refusals up to number 3 part from those after it.
 -- Assumes nothing.
 use mathlib.Core.Path.{_∙_, ap₂}
-use Rattle.ladder.specs.Refusals.{order, answer}
 use Rattle.ladder.specs.Refusals.{_then_}
 use Rattle.refuse.specs.Inner.{planRead}
 use Rattle.refuse.proofs.Laws.{plan-early, plan-late}
-use mathlib.Core.Path.{_∙_}
 use borrow.Author.Needs.{needs}
 use Rattle.refuse.proofs.table.plan.Statement.{statement}
 use Rattle.refuse.proofs.table.plan.Tie as tie
