@@ -8,14 +8,14 @@ use native.Mathlib.Decide.{decLt}
 use native.Mathlib.Omega.{arith}
 use lib.Dec.{eqb}
 use lib.IntN.{pos, negsuc}
-use lib.ListN.{length, take, getD, length-take, List·getD-eq-default}
+use lib.ListN.{length, length-map, take, getD, length-take, List·getD-eq-default}
 use lib.Seq.{getD-take}
 use Rattle.ladder.specs.Matrix.{Arrangement}
 use Rattle.ladder.specs.Plan.{Plan, startOrder}
 use Rattle.ladder.specs.Registers.{modulus}
 use Rattle.ladder.specs.Walk.{Walk}
-use Rattle.ladder.specs.Refusals.{dim, len, shape, stepShape, scalar, order, isUnit, isZero, walkOrder, answer, tooLarge, element, trailer, distance, big, planRefusal, runRefusal}
-use Rattle.ladder.proofs.Tests.{then-none, none-then, unless-is, unless-says, reworded, leb-says, eqb-says, and-says, within-says, all-says, past-says, below-says, OrderOk, isArrangement-says, isUnit-says, isZero-says}
+use Rattle.ladder.specs.Refusals.{dim, len, shape, stepShape, scalar, order, isUnit, isZero, isEight, walkOrder, answer, tooLarge, element, trailer, distance, big, planRefusal, runRefusal}
+use Rattle.ladder.proofs.Tests.{Says, then-none, none-then, unless-is, unless-says, reworded, leb-says, eqb-says, and-says, within-says, all-says, past-says, below-says, OrderOk, isArrangement-says, isUnit-says, isZero-says}
 
 -- ---- the table: each refusal is 0 exactly where what it asks is so
 
@@ -49,13 +49,24 @@ pub order-none : (d : ℕ) (S : List ℕ) → order d S ≡ 0 ↔ OrderOk d S
 unfolding order
 order-none d S = unless-says 4 (isArrangement-says d S)
 
--- A walk state: its first d places are an arrangement of 1..d, its first d signs are 1 or -1, and past place d all is 0.
+-- A walk state: eight places and eight signs; its first d places are an arrangement of 1..d, the signs of columns 1..d are 1 or -1,
+-- and past place d all is 0.
 pub record WalkOk (w : Walk) : Type 0 where
+  pub eightPlaces : length (w .order) ≡ 8
+  pub eightSigns : length (w .signs) ≡ 8
   pub places : OrderOk (w .d) (take (w .d) (w .order))
-  pub units : (j : ℕ) → j < w .d → j < length (w .signs)
-      → (getD (w .signs) j (pos 0) ≡ pos 1) ⊎ (getD (w .signs) j (pos 0) ≡ negsuc 0)
+  pub units : (j : ℕ) → j < w .d → (getD (w .signs) j (pos 0) ≡ pos 1) ⊎ (getD (w .signs) j (pos 0) ≡ negsuc 0)
   pub restOrder : (j : ℕ) → w .d ≤ j → getD (w .order) j 0 ≡ 0
   pub restSigns : (j : ℕ) → w .d ≤ j → getD (w .signs) j (pos 0) ≡ pos 0
+
+isEight-says : (w : Walk) → Says (isEight w) ((length (w .order) ≡ 8) × (length (w .signs) ≡ 8))
+unfolding isEight
+isEight-says w = and-says (eqb-says (length (w .order)) 8) (eqb-says (length (w .signs)) 8)
+
+-- Places of an arrangement in the first d of eight: d is at most 8.
+d-within : (d : ℕ) (S : List ℕ) → length S ≡ 8 → OrderOk d (take d S) → d ≤ 8
+d-within d S e ok =
+    omega (arith, ok .columns .long, length-map (take d S) pred, length-take d S)
 
 -- A walk state is in order.
 pub walkOrder-none : (w : Walk) → walkOrder w ≡ 0 ↔ WalkOk w
@@ -65,14 +76,19 @@ walkOrder-none w =
     let units = all-says isUnit (pos 0) (take (w .d) (w .signs)) isUnit-says in
     let restOrder = past-says (eqb 0) 0 (w .d) (w .order) (λ n. reworded (eqb-says 0 n) (sym, sym)) in
     let restSigns = past-says isZero (pos 0) (w .d) (w .signs) isZero-says in
-    unless-says 4 (reworded (and-says (and-says (and-says places units) restOrder) restSigns) (
+    unless-says 4 (reworded (and-says (and-says (and-says (and-says (isEight-says w) places) units) restOrder) restSigns) (
       λ t. record {
-        places = t .0 .0 .0;
-        units = λ j h l. rw getD-take at (t .0 .0 .1 j (omega (arith, long)));
+        eightPlaces = t .0 .0 .0 .0 .0;
+        eightSigns = t .0 .0 .0 .0 .1;
+        places = t .0 .0 .0 .1;
+        units = λ j h.
+            rw getD-take at
+            (t .0 .0 .1 j
+            (omega (arith, long, t .0 .0 .0 .0 .1, d-within (w .d) (w .order) (t .0 .0 .0 .0 .0) (t .0 .0 .0 .1))));
         restOrder = t .0 .1;
         restSigns = t .1;
       },
-      λ ok. (((ok .places, first ok), ok .restOrder), ok .restSigns),
+      λ ok. (((((ok .eightPlaces, ok .eightSigns), ok .places), first ok), ok .restOrder), ok .restSigns),
     ))
   where
     long : length (take (w .d) (w .signs)) ≡ min (w .d) (length (w .signs))
@@ -82,7 +98,7 @@ walkOrder-none w =
         → (getD (take (w .d) (w .signs)) j (pos 0) ≡ pos 1) ⊎ (getD (take (w .d) (w .signs)) j (pos 0) ≡ negsuc 0)
     first ok j h =
         let inside : j < w .d = omega (arith, long) in
-        rw getD-take (ok .units j inside (omega (arith, long)))
+        rw getD-take (ok .units j inside)
 
 -- An answer row is from 1 to d+1.
 pub answer-none : (d n : ℕ) → answer d n ≡ 0 ↔ (1 ≤ n) × (n ≤ suc d)

@@ -12,7 +12,7 @@ use lib.ListN.{length, getD, replicate, length-replicate}
 use Rattle.ladder.specs.Lists.{tabulate, ones}
 use Rattle.ladder.specs.Matrix.{Row, Matrix, row, Arrangement, StateMatrix, addRows, doubleRow, bump, rowsFrom, startMatrix, Pair, additions, step, matrixAfter}
 use Rattle.ladder.specs.Trace.{difference}
-use Rattle.ladder.specs.Registers.{Rule, stepRegisters, registersAfter, modulus, sumOf, combination, timesSigned, signedSum, plainRule, differenceRule, startFrom, startRegisters}
+use Rattle.ladder.specs.Registers.{Rule, stepRegisters, registersAfter, modulus, sumOf, combination, timesSigned, signedSum, plainRule, differenceRule, differenceAdd, startFrom, startRegisters}
 use Rattle.ladder.proofs.Lists.{getD-map, map-map, map-same, ones-le}
 use Rattle.ladder.proofs.Step.{rowY-inside, length-additions, additions-x, additions-y}
 use Rattle.ladder.proofs.Ladder.{length-bump, state-after}
@@ -187,7 +187,7 @@ difference-sum m (suc d) (a ∷ u) (b ∷ v) (e ∷ es) h l f k =
 
 pub difference-respects : (m : ℕ) (es : List ℕ) (d : ℕ) → ((j : ℕ) → getD es j 0 ≤ modulus m)
     → Respects (differenceRule m es) d (combination m es)
-unfolding differenceRule combination
+unfolding differenceRule differenceAdd combination
 difference-respects m es d fits = record {
   doubles = λ B S M i h.
       sym (add-mod (sumOf (row B i) es) (sumOf (row B i) es) (modulus m))

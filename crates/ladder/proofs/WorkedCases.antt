@@ -10,7 +10,7 @@ use Rattle.ladder.specs.Matrix.{Row, Matrix, addRows, doubleRow, bump, r
 use Rattle.ladder.specs.Plan.{startOrder, stepBits, matrixIn, orderIn, lastMatrix, endOrder, answerRow}
 use Rattle.ladder.specs.Encoding.{scalarBit, xor, dealt, deal, picked, passed, rearrange, orderToGo, encodedStart, encodedBits, encodeWith, houseOrder, encode}
 use Rattle.ladder.specs.Trace.{difference, operations, entryOf, block, blockIn, entriesIn, signedByte, entryBytes, traceBytes, doublings, additionCount}
-use Rattle.ladder.specs.Registers.{stepRegisters, registersAfter, modulus, sumOf, combination, timesSigned, signedSum, plainRule, differenceRule, startFrom, startRegisters, plainRegisters, differenceRegisters, answerRegister}
+use Rattle.ladder.specs.Registers.{stepRegisters, registersAfter, modulus, sumOf, combination, timesSigned, signedSum, plainRule, differenceAdd, differenceRule, startFrom, startRegisters, plainRegisters, differenceRegisters, answerRegister}
 
 pub data Case : Type 0 where
   -- d, l and scalars; start order, bytes and answer row; last rows
@@ -72,7 +72,7 @@ cases =
     ∷ []
 
 pub cases-hold : AllHold cases
-unfolding tabulate joined same count ones odds bitAt byteOf bytesFor packBits addRows doubleRow bump rowsFrom startMatrix pairsFrom additions step orderFrom stepOrder matrixAfter orderAfter startOrder stepBits matrixIn orderIn lastMatrix endOrder answerRow scalarBit xor dealt deal picked passed rearrange orderToGo encodedStart encodedBits encodeWith houseOrder encode difference operations entryOf block blockIn entriesIn signedByte entryBytes traceBytes doublings additionCount stepRegisters registersAfter modulus sumOf combination timesSigned signedSum plainRule differenceRule startFrom startRegisters plainRegisters differenceRegisters answerRegister flatten
+unfolding tabulate joined same count ones odds bitAt byteOf bytesFor packBits addRows doubleRow bump rowsFrom startMatrix pairsFrom additions step orderFrom stepOrder matrixAfter orderAfter startOrder stepBits matrixIn orderIn lastMatrix endOrder answerRow scalarBit xor dealt deal picked passed rearrange orderToGo encodedStart encodedBits encodeWith houseOrder encode difference operations entryOf block blockIn entriesIn signedByte entryBytes traceBytes doublings additionCount stepRegisters registersAfter modulus sumOf combination timesSigned signedSum plainRule differenceAdd differenceRule startFrom startRegisters plainRegisters differenceRegisters answerRegister flatten
 cases-hold = (
   (refl, refl, refl),
   (

@@ -13,16 +13,19 @@ use Rattle.ladder.specs.Lists.{tabulate, count, ones, odds}
 
 -- ---- rows and matrices
 
--- A row is its entries, a matrix its rows.
+-- A row is its entries ..
 abbrev pub Row : Type 0
 Row = List ℕ
 
+-- .. and a matrix its rows.
 abbrev pub Matrix : Type 0
 Matrix = List Row
 
+-- Row i (the rules' row i+1).
 abbrev pub row : Matrix → ℕ → Row
 row B i = getD B i []
 
+-- The entry of row i in column j.
 abbrev pub entry : Matrix → ℕ → ℕ → ℕ
 entry B i j = getD (row B i) j 0
 
@@ -102,7 +105,8 @@ pairsFrom x y (suc b ∷ r) = record { x = pred x; y = y } ∷ pairsFrom (pred x
 unfoldable pub additions : List ℕ → List Pair
 additions r = pairsFrom (ones r) (ones r) r
 
--- New row 0 is the double of row h; each addition gives the next row.
+-- New row 0 is the double of row h; each addition gives the next row. Figure 1 of the source: (2,4,2,2) (2,4,2,3) (3,4,2,3)
+-- (3,3,2,3) (3,3,3,3) with bits 1001 give (6,8,4,6) (5,8,4,6) (5,7,4,6) (5,7,5,6) (5,7,5,5).
 unfoldable pub step : Matrix → List ℕ → Matrix
 step B r = doubleRow (row B (ones r)) ∷ map (λ p. addRows (row B (p .x)) (row B (p .y))) (additions r)
 
@@ -113,6 +117,7 @@ orderFrom S x y [] = []
 orderFrom S x y (zero ∷ r) = getD S y 0 ∷ orderFrom S x (suc y) r
 orderFrom S x y (suc b ∷ r) = getD S (pred x) 0 ∷ orderFrom S (pred x) y r
 
+-- The new order: x and y start at h, the number of ones.
 unfoldable pub stepOrder : List ℕ → List ℕ → List ℕ
 stepOrder S r = orderFrom S (ones r) (ones r) r
 
@@ -134,10 +139,12 @@ unfoldable pub matrixAfter : ℕ → List ℕ → (ℕ → List ℕ) → ℕ →
 matrixAfter d S r zero = startMatrix d S
 matrixAfter d S r (suc n) = step (matrixAfter d S r n) (r n)
 
+-- The order after n steps.
 unfoldable pub orderAfter : List ℕ → (ℕ → List ℕ) → ℕ → List ℕ
 orderAfter S r zero = S
 orderAfter S r (suc n) = stepOrder (orderAfter S r n) (r n)
 
+-- The signs after n steps.
 unfoldable pub signsAfter : ℕ → List ℕ → (ℕ → List ℕ) → ℕ → List ℤ
 signsAfter d S r zero = startSigns d
 signsAfter d S r (suc n) = stepSigns (signsAfter d S r n) (orderAfter S r n) (r n)

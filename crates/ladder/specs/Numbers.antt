@@ -55,19 +55,23 @@ scalarWords l = (l + 63) / 64
 unfoldable pub valueWords : ℕ → ℕ
 valueWords l = l / 64 + 1
 
+-- The words of d scalars.
 unfoldable pub scalarsLength : ℕ → ℕ → ℕ
 scalarsLength d l = d * scalarWords l
 
+-- The words of d decoded values.
 unfoldable pub valuesLength : ℕ → ℕ → ℕ
 valuesLength d l = d * valueWords l
 
--- A start order has d bytes, elements are d words, registers d + 1 words.
+-- The bytes of a start order.
 unfoldable pub startLength : ℕ → ℕ
 startLength d = d
 
+-- The words of the elements.
 unfoldable pub elementsLength : ℕ → ℕ
 elementsLength d = d
 
+-- The words of the registers.
 unfoldable pub registersLength : ℕ → ℕ
 registersLength d = d + 1
 

@@ -19,23 +19,28 @@ pub record Plan : Type 0 where
 unfoldable pub startOrder : Plan → List ℕ
 startOrder p = map pred (p .start)
 
--- The bits of step s (the rules' step s+1): bit k (the rules' bit k+1) is bit number s*d + k. Filling bits are never asked for.
+-- The bits of step s (the rules' step s+1): bit k (the rules' bit k+1) is bit number s*d + k. Of bits 72 D8 with d 2, step 0 has 01.
+-- For the steps of a plan, s below l, no filling bit is asked for.
 unfoldable pub stepBits : Plan → ℕ → List ℕ
 stepBits p s = tabulate (p .d) (λ k. bitAt (p .bits) (s * p .d + k))
 
--- The matrix, the order and the signs after n steps; after s steps is before step s (the rules' step s+1).
+-- The matrix after n steps of a plan; after s steps is before step s (the rules' step s+1).
 unfoldable pub matrixIn : Plan → ℕ → Matrix
 matrixIn p n = matrixAfter (p .d) (startOrder p) (stepBits p) n
 
+-- The order after n steps.
 unfoldable pub orderIn : Plan → ℕ → List ℕ
 orderIn p n = orderAfter (startOrder p) (stepBits p) n
 
+-- The signs after n steps.
 unfoldable pub signsIn : Plan → ℕ → List ℤ
 signsIn p n = signsAfter (p .d) (startOrder p) (stepBits p) n
 
+-- The last matrix: that after l steps.
 unfoldable pub lastMatrix : Plan → Matrix
 lastMatrix p = matrixIn p (p .l)
 
+-- The end order: that of the last matrix.
 unfoldable pub endOrder : Plan → List ℕ
 endOrder p = orderIn p (p .l)
 

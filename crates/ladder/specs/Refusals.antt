@@ -1,5 +1,5 @@
--- "Operations and how they refuse": one definition for each number of the table, then each operation's refusal, the first
--- that applies in the order given for that operation. 0 is OK.
+-- "Operations and how they refuse": each number of the table by name, a definition of when it is given, then each operation's
+-- refusal: the first that applies in the order given for that operation. 0 is OK.
 -- Assumes nothing.
 use Prim.Native.Nat.{ℕ, zero, suc, _+_, _^_}
 use mathlib.Core.Bool.{Bool, true, false, cond, _&&_}
@@ -25,30 +25,63 @@ suc m then n = suc m
 unfoldable pub unless : Bool → ℕ → ℕ
 unless test n = cond test 0 n
 
+-- A number lies in lo..hi.
 unfoldable pub within : ℕ → ℕ → ℕ → Bool
 within lo hi n = leb lo n && leb n hi
 
--- ---- the table, a definition for each number
+-- ---- the table: the numbers by name
+
+abbrev pub DIM : ℕ
+DIM = 1
+
+abbrev pub LENGTH : ℕ
+LENGTH = 2
+
+abbrev pub SHAPE : ℕ
+SHAPE = 3
+
+abbrev pub SCALAR : ℕ
+SCALAR = 4
+
+abbrev pub ORDER : ℕ
+ORDER = 5
+
+abbrev pub ROW : ℕ
+ROW = 6
+
+abbrev pub MODULUS : ℕ
+MODULUS = 7
+
+abbrev pub ELEMENT : ℕ
+ELEMENT = 8
+
+abbrev pub TRAILER : ℕ
+TRAILER = 9
+
+abbrev pub BIG : ℕ
+BIG = 10
+
+-- ---- the table: when each is given
 
 -- 1 DIM: d not 1..8.
 unfoldable pub dim : ℕ → ℕ
-dim d = unless (within 1 8 d) 1
+dim d = unless (within 1 8 d) DIM
 
 -- 2 LENGTH: l not 1..576.
 unfoldable pub len : ℕ → ℕ
-len l = unless (within 1 576 l) 2
+len l = unless (within 1 576 l) LENGTH
 
 -- 3 SHAPE: a lent buffer hasn't exactly its length ..
 unfoldable pub shape : List ℕ → ℕ → ℕ
-shape buffer n = unless (eqb (length buffer) n) 3
+shape buffer n = unless (eqb (length buffer) n) SHAPE
 
 -- .. or a step's bit number is 2^d or more.
 unfoldable pub stepShape : ℕ → ℕ → ℕ
-stepShape d n = unless (ltb n (2 ^ d)) 3
+stepShape d n = unless (ltb n (2 ^ d)) SHAPE
 
 -- 4 SCALAR: a scalar is 2^l or more.
 unfoldable pub scalar : ℕ → List ℕ → ℕ
-scalar l ks = unless (all (λ k. ltb k (2 ^ l)) ks) 4
+scalar l ks = unless (all (λ k. ltb k (2 ^ l)) ks) SCALAR
 
 -- Each of 1..n occurs once.
 unfoldable pub eachOnce : ℕ → List ℕ → Bool
@@ -61,57 +94,64 @@ isArrangement d S = eqb (length S) d && all (within 1 d) S && eachOnce d S
 
 -- 5 ORDER: the order isn't an arrangement of 1..d ..
 unfoldable pub order : ℕ → List ℕ → ℕ
-order d S = unless (isArrangement d S) 5
+order d S = unless (isArrangement d S) ORDER
 
--- .. in a walk state also a sign other than 1 and -1 at a place 1..d, or a non-zero order or sign past place d.
+-- 1 or -1.
 unfoldable pub isUnit : ℤ → Bool
 isUnit (pos n) = eqb n 1
 isUnit (negsuc n) = eqb n 0
 
+-- 0.
 unfoldable pub isZero : ℤ → Bool
 isZero (pos n) = eqb n 0
 isZero (negsuc n) = false
 
+-- A walk state has eight places and eight signs. (A call's arrays always have; lists could be shorter.)
+unfoldable pub isEight : Walk → Bool
+isEight w = eqb (length (w .order)) 8 && eqb (length (w .signs)) 8
+
+-- .. in a walk state also a sign other than 1 and -1 at a place 1..d, or a non-zero order or sign past place d.
 unfoldable pub walkOrder : Walk → ℕ
 walkOrder w =
     unless
-    (isArrangement (w .d) (take (w .d) (w .order)) && all isUnit (take (w .d) (w .signs))
+    (isEight w && isArrangement (w .d) (take (w .d) (w .order)) && all isUnit (take (w .d) (w .signs))
     && all (eqb 0) (drop (w .d) (w .order)) && all isZero (drop (w .d) (w .signs)))
-    5
+    ORDER
 
 -- 6 ROW: answer row not 1..d+1.
 unfoldable pub answer : ℕ → ℕ → ℕ
-answer d n = unless (within 1 (suc d) n) 6
+answer d n = unless (within 1 (suc d) n) ROW
 
 -- 7 MODULUS: above 2^63.
 unfoldable pub tooLarge : ℕ → ℕ
-tooLarge m = unless (leb m (2 ^ 63)) 7
+tooLarge m = unless (leb m (2 ^ 63)) MODULUS
 
 -- 8 ELEMENT: an element not below a modulus other than 0.
 unfoldable pub element : ℕ → List ℕ → ℕ
 element zero es = 0
-element (suc m) es = unless (all (λ e. ltb e (suc m)) es) 8
+element (suc m) es = unless (all (λ e. ltb e (suc m)) es) ELEMENT
 
--- 9 TRAILER: plan file shorter than 12 bytes, wrong mark ..
+-- Two lists of bytes are the same.
 unfoldable pub sameBytes : List ℕ → List ℕ → Bool
 sameBytes [] [] = true
 sameBytes [] (b ∷ bs) = false
 sameBytes (a ∷ rest) [] = false
 sameBytes (a ∷ rest) (b ∷ bs) = eqb a b && sameBytes rest bs
 
+-- 9 TRAILER: plan file shorter than 12 bytes, wrong mark ..
 unfoldable pub trailer : List ℕ → ℕ
-trailer file = unless (leb trailerSize (length file) && sameBytes (markIn file) mark) 9
+trailer file = unless (leb trailerSize (length file) && sameBytes (markIn file) mark) TRAILER
 
 -- .. or a back distance that isn't the body's, or that is more than the bytes before the trailer.
 unfoldable pub distance : List ℕ → ℕ
 distance file =
     unless
     (eqb (distanceIn file) (bodyLength (dIn file) (lIn file)) && leb (distanceIn file + trailerSize) (length file))
-    9
+    TRAILER
 
 -- 10 BIG: more than 4,096 bytes of input.
 unfoldable pub big : List ℕ → ℕ
-big file = unless (leb (length file) 4096) 10
+big file = unless (leb (length file) 4096) BIG
 
 -- ---- each operation
 

@@ -67,27 +67,34 @@ plainRule m = record {
   none = 0;
 }
 
--- The difference run takes twice register x plus the combination by the difference vector, with no use of register y.
+-- The difference run's addition is handed register x, the vector, the elements and the modulus and nothing else: twice the
+-- register plus the combination of the elements by the vector. With 10, 20 modulo 101, register 10 and vector -1, 1 give 30.
+unfoldable pub differenceAdd : ℕ → List ℕ → ℕ → List ℤ → ℕ
+differenceAdd m es a v = (2 * a + signedSum m v es) % modulus m
+
+-- The difference run makes each addition by it, with no use of register y.
 unfoldable pub differenceRule : ℕ → List ℕ → Rule ℕ
 differenceRule m es = record {
   double = λ a. (a + a) % modulus m;
-  add = λ a b v. (2 * a + signedSum m v es) % modulus m;
+  add = λ a b v. differenceAdd m es a v;
   none = 0;
 }
 
--- The start registers: first 0, then each is the one before plus the element of the column at that place of the start order.
+-- Register a, and for each place of an order the register before it plus the element of the column that stands there.
 unfoldable pub startFrom : ℕ → List ℕ → ℕ → List ℕ → List ℕ
 startFrom m es a [] = a ∷ []
 startFrom m es a (j ∷ S) = a ∷ startFrom m es ((a + getD es j 0) % modulus m) S
 
+-- The start registers of a run. With 10, 20 and order 1 2 they are 0, 10, 30.
 unfoldable pub startRegisters : ℕ → List ℕ → List ℕ → List ℕ
 startRegisters m es S = startFrom m es 0 S
 
--- The registers of a plan after n steps, by the plain rule and by the difference run's own rule.
+-- The registers of a plan after n steps, by the plain rule.
 unfoldable pub plainRegisters : Plan → ℕ → List ℕ → ℕ → List ℕ
 plainRegisters p m es n =
     registersAfter (plainRule m) (p .d) (startOrder p) (stepBits p) (startRegisters m es (startOrder p)) n
 
+-- The registers of a plan after n steps, by the difference run's own rule.
 unfoldable pub differenceRegisters : Plan → ℕ → List ℕ → ℕ → List ℕ
 differenceRegisters p m es n =
     registersAfter (differenceRule m es) (p .d) (startOrder p) (stepBits p) (startRegisters m es (startOrder p)) n

@@ -22,17 +22,19 @@ pub record Entry : Type 0 where
 unfoldable pub operations : List ℕ → List Pair
 operations r = record { x = ones r; y = ones r } ∷ additions r
 
--- The entries of a step with bits r from the matrix B before it.
+-- The entry of one operation, from the matrix B before the step.
 unfoldable pub entryOf : ℕ → Matrix → Pair → Entry
 entryOf d B p = record { x = p .x; y = p .y; vector = difference d (row B (p .y)) (row B (p .x)) }
 
+-- The entries of a step with bits r from the matrix B before it.
 unfoldable pub block : ℕ → Matrix → List ℕ → List Entry
 block d B r = map (entryOf d B) (operations r)
 
--- The entries of step s of a plan, and of all its steps in order.
+-- The entries of step s of a plan (the rules' step s+1).
 unfoldable pub blockIn : Plan → ℕ → List Entry
 blockIn p s = block (p .d) (matrixIn p s) (stepBits p s)
 
+-- The entries of all its steps, in order.
 unfoldable pub entriesIn : Plan → List Entry
 entriesIn p = joined (p .l) (blockIn p)
 
@@ -45,14 +47,16 @@ signedByte (negsuc n) = 255 - n
 unfoldable pub entryBytes : Entry → List ℕ
 entryBytes e = suc (e .x) ∷ suc (e .y) ∷ map signedByte (e .vector)
 
+-- The bytes of entries, one after the other. The first block of the plan of 2, 1 is 02 02 00 00, 01 02 01 00, 01 03 01 01.
 unfoldable pub traceBytes : List Entry → List ℕ
 traceBytes es = flatten (map entryBytes es)
 
--- The doublings are the entries with x = y, the additions the others.
+-- The doublings are the entries with x = y ..
 unfoldable pub doublings : List Entry → ℕ
 doublings [] = 0
 doublings (e ∷ es) = same (e .x) (e .y) + doublings es
 
+-- .. and the additions the others.
 unfoldable pub additionCount : List Entry → ℕ
 additionCount [] = 0
 additionCount (e ∷ es) = (1 - same (e .x) (e .y)) + additionCount es

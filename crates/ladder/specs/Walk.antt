@@ -25,10 +25,11 @@ walkOf d S signs = record {
   signs = signs ++ replicate (8 - d) (pos 0);
 }
 
--- The order and the signs that a walk state holds.
+-- The order that a walk state holds, columns from 0 ..
 unfoldable pub orderOf : Walk → List ℕ
 orderOf w = map pred (take (w .d) (w .order))
 
+-- .. and the signs.
 unfoldable pub walkSigns : Walk → List ℤ
 walkSigns w = take (w .d) (w .signs)
 
