@@ -1,6 +1,6 @@
 -- When each refusal is 0, so that a call goes on, and which numbers it can be.
 -- Assumes nothing.
-use Prim.Native.Nat.{ℕ, zero, suc, min, _^_, _≤_, _<_}
+use Prim.Native.Nat.{ℕ, pred, zero, suc, min, _^_, _≤_, _<_}
 use mathlib.Core.Path.{_≡_, refl, sym}
 use mathlib.Core.Logic.{_↔_, _⊎_, inl, inr, ⊎-elim}
 use mathlib.Core.List.{List, map}
