@@ -8,7 +8,7 @@ use native.Mathlib.Omega.{arith}
 use lib.ListN.{length, getD}
 use Rattle.ladder.specs.Lists.{odds}
 use Rattle.ladder.specs.Numbers.{numbersOf, wordsOfAll, bitAt, packBits, bitsLength, valueWords}
-use Rattle.ladder.specs.Matrix.{row, entry, Arrangement, matrixAfter, orderAfter}
+use Rattle.ladder.specs.Matrix.{row, entry, Arrangement, StateMatrix, matrixAfter, orderAfter}
 use Rattle.ladder.specs.Plan.{Plan, startOrder, stepBits, matrixIn, orderIn, lastMatrix, endOrder, answerRow, valuesIn}
 use Rattle.ladder.specs.Encoding.{encodedStart, encodedBits, encodeWith, encode}
 use Rattle.ladder.specs.Registers.{combination, modulus, plainRegisters, differenceRegisters, answerRegister}
@@ -52,6 +52,12 @@ module _ {d : ℕ} (l : ℕ) (ks : List ℕ) {E : List ℕ} (a : Arrangement d E
       ap (λ S. orderAfter S (stepBits (encodeWith d l ks E)) l) encoded-start-order
       ∙ order-same (encodedStart l ks E) (stepBits (encodeWith d l ks E)) (encodedBits l ks E) l encoded-step-bits
       ∙ encoded-end l ks a
+
+  -- The last matrix is a state matrix, and its order is the end order.
+  pub encoded-state : StateMatrix d (lastMatrix (encodeWith d l ks E)) E
+  encoded-state =
+      rw encoded-last-matrix
+      (subst (StateMatrix d _) (encoded-end l ks a) (state-after (start-arranged l ks a) (encodedBits l ks E) (length-encodedBits l ks a) l))
 
   -- In column j the last matrix has scalar plus its lowest bit in row 0 (the rules' row 1), and scalar plus 1 minus its lowest
   -- bit in row d (the rules' row d+1).

@@ -17,7 +17,14 @@ pub mod Decoding
 pub mod Walk
 pub mod Tests
 pub mod Refusals
+pub mod FileRefusals
+pub mod Operations
+pub mod Chains
+pub mod WalkSteps
 pub mod Demand3
 pub mod Demand2
 pub mod SamePlan
+pub mod Difference
+pub mod Lengths
+pub mod Files
 pub mod WorkedCases

@@ -7,7 +7,7 @@ use mathlib.Core.List.{List, [], _∷_, map}
 use native.Mathlib.Nat.{add-mul, mul-add, add-mod, zero-mod, mod-add-mod, add-mul-mod-self-right, two-mul, zero-mul, suc-mul, add-comm}
 use native.Mathlib.Decide.{decLe}
 use native.Mathlib.Omega.{arith}
-use lib.IntN.{subℕ}
+use lib.IntN.{ℤ, subℕ}
 use lib.ListN.{length, getD, replicate, length-replicate}
 use Rattle.ladder.specs.Lists.{tabulate, ones}
 use Rattle.ladder.specs.Matrix.{Row, Matrix, row, Arrangement, StateMatrix, addRows, doubleRow, bump, rowsFrom, startMatrix, Pair, additions, step, matrixAfter}
@@ -142,6 +142,12 @@ plain-respects m es d = record {
 }
 
 -- ---- the difference run
+
+-- The addition of the difference run is the same with any register y.
+pub difference-ignores-y : (m : ℕ) (es : List ℕ) (a b c : ℕ) (v : List ℤ)
+    → differenceRule m es .add a b v ≡ differenceRule m es .add a c v
+unfolding differenceRule
+difference-ignores-y m es a b c v = refl
 
 -- A number a, and its difference from b times e, make b times e, by the modulus.
 term : (m a b e : ℕ) → e ≤ modulus m → (n k : ℕ)

@@ -30,6 +30,33 @@ pub none-then : (m n : ℕ) → m ≡ 0 → n ≡ 0 → m then n ≡ 0
 unfolding _then_
 none-then m n e f = rw e f
 
+-- So two in a row ask what each asks.
+pub then-says : {m n : ℕ} {P Q : Type 0} → m ≡ 0 ↔ P → n ≡ 0 ↔ Q → m then n ≡ 0 ↔ P × Q
+then-says {m} {n} p q = (λ e. let t = then-none m n e in (p .0 (t .0), q .0 (t .1)), λ t. none-then m n (p .1 (t .0)) (q .1 (t .1)))
+
+-- A refusal that applies is the one given, whatever comes after it ..
+pub then-first : (m n : ℕ) → (m ≡ 0 → ⊥) → m then n ≡ m
+unfolding _then_
+then-first zero n ne = absurd (ne refl)
+then-first (suc m) n ne = refl
+
+-- .. and one that does not leaves the next.
+pub then-next : (m n : ℕ) → m ≡ 0 → m then n ≡ n
+unfolding _then_
+then-next m n e = rw e
+
+-- Refusals in a row have one order, however they are grouped.
+pub then-assoc : (m n k : ℕ) → (m then n) then k ≡ m then n then k
+unfolding _then_
+then-assoc zero n k = refl
+then-assoc (suc m) n k = refl
+
+-- Two in a row that are each 0 or one number are 0 or that number.
+pub then-is : (m n k : ℕ) → (m ≡ 0) ⊎ (m ≡ k) → (n ≡ 0) ⊎ (n ≡ k) → (m then n ≡ 0) ⊎ (m then n ≡ k)
+unfolding _then_
+then-is zero n k p q = q
+then-is (suc m) n k p q = p
+
 -- A refusal that is not given has its test passed.
 pub unless-none : (test : Bool) (n : ℕ) → unless test (suc n) ≡ 0 → T test
 unfolding unless

@@ -6,7 +6,7 @@ use mathlib.Core.List.{List, [], _∷_, map}
 use native.Mathlib.Nat.{mod-eq-of-lt, pow-suc, mul-comm}
 use native.Mathlib.Omega.{arith}
 use lib.IntN.{ℤ, pos}
-use lib.ListN.{length, getD, replicate, length-map, length-append, length-replicate}
+use lib.ListN.{length, getD, length-map, length-append, length-replicate}
 use lib.Seq.{take-at}
 use lib.Arith.{digits-lt}
 use lib.Pow.{high, low, field, mod-mod-pow}
@@ -28,12 +28,12 @@ pred-suc (j ∷ S) = ap (λ l. j ∷ l) (pred-suc S)
 pub order-of-walk : (d : ℕ) (S : List ℕ) (signs : List ℤ) → length S ≡ d → orderOf (walkOf d S signs) ≡ S
 unfolding orderOf walkOf
 order-of-walk d S signs e =
-    ap (map pred) (take-at (map suc S) (replicate (8 - d) 0) d (length-map S suc ∙ e)) ∙ pred-suc S
+    ap (map pred) (take-at (map suc S) _ d (length-map S suc ∙ e)) ∙ pred-suc S
 
 -- So are the signs.
 pub signs-of-walk : (d : ℕ) (S : List ℕ) (signs : List ℤ) → length signs ≡ d → walkSigns (walkOf d S signs) ≡ signs
 unfolding walkSigns walkOf
-signs-of-walk d S signs e = take-at signs (replicate (8 - d) (pos 0)) d e
+signs-of-walk d S signs e = take-at signs _ d e
 
 -- A walk state has eight places and eight signs.
 pub walk-places : (d : ℕ) (S : List ℕ) (signs : List ℤ) → d ≤ 8 → length S ≡ d → length signs ≡ d

@@ -4,13 +4,15 @@
 use Prim.Native.Nat.{ℕ, _+_, _^_}
 use mathlib.Core.Path.{_≡_, refl}
 use mathlib.Core.List.{List, [], _∷_, flatten}
-use Rattle.ladder.specs.Lists.{tabulate, joined, same, count, ones, odds}
-use Rattle.ladder.specs.Numbers.{bitAt, byteOf, bytesFor, packBits}
+use Rattle.ladder.specs.Lists.{tabulate, joined, same, count, ones, odds, all}
+use Rattle.ladder.specs.Numbers.{numberOf, bitAt, byteOf, bytesFor, packBits, bitsLength}
 use Rattle.ladder.specs.Matrix.{Row, Matrix, addRows, doubleRow, bump, rowsFrom, startMatrix, pairsFrom, additions, step, orderFrom, stepOrder, matrixAfter, orderAfter}
 use Rattle.ladder.specs.Plan.{startOrder, stepBits, matrixIn, orderIn, lastMatrix, endOrder, answerRow}
 use Rattle.ladder.specs.Encoding.{scalarBit, xor, dealt, deal, picked, passed, rearrange, orderToGo, encodedStart, encodedBits, encodeWith, houseOrder, encode}
 use Rattle.ladder.specs.Trace.{difference, operations, entryOf, block, blockIn, entriesIn, signedByte, entryBytes, traceBytes, doublings, additionCount}
 use Rattle.ladder.specs.Registers.{stepRegisters, registersAfter, modulus, sumOf, combination, timesSigned, signedSum, plainRule, differenceAdd, differenceRule, startFrom, startRegisters, plainRegisters, differenceRegisters, answerRegister}
+use Rattle.ladder.specs.PlanFile.{mark, trailerSize, bodyLength, trailerByte, dIn, answerIn, lIn, distanceIn, markIn, bodyPlace, bodyIn, planIn, twoBytes, fourBytes, fileOf}
+use Rattle.ladder.specs.Refusals.{_then_, unless, within, dim, len, eachOnce, isArrangement, order, answer, sameBytes, trailer, distance, planRefusal, unpackRefusal}
 
 pub data Case : Type 0 where
   -- d, l and scalars; start order, bytes and answer row; last rows
@@ -21,6 +23,10 @@ pub data Case : Type 0 where
   tracing : ℕ → ℕ → List ℕ → List ℕ → ℕ → ℕ → Case
   -- d, l and scalars; modulus and elements; end registers and answer, by both rules
   running : ℕ → ℕ → List ℕ → ℕ → List ℕ → List ℕ → ℕ → Case
+  -- d, l and scalars; the plan file
+  packing : ℕ → ℕ → List ℕ → List ℕ → Case
+  -- words; the number that they stand for
+  wording : List ℕ → ℕ → Case
   -- a matrix, bits, and the matrix after the step
   stepping : Matrix → List ℕ → Matrix → Case
 
@@ -39,6 +45,9 @@ Holds (running d l scalars m elements registers answer) =
     (plainRegisters (encode d l scalars) m elements l ≡ registers)
     × (differenceRegisters (encode d l scalars) m elements l ≡ registers)
     × (answerRegister (encode d l scalars) registers ≡ answer)
+Holds (packing d l scalars bytes) =
+    (fileOf (encode d l scalars) ≡ bytes) × (planIn bytes ≡ encode d l scalars) × (unpackRefusal bytes ≡ 0)
+Holds (wording words n) = numberOf words ≡ n
 Holds (stepping B r after) = step B r ≡ after
 
 abbrev pub AllHold : List Case → Type 0
@@ -65,6 +74,9 @@ cases =
     ∷ listing 2 7 (73 ∷ 59 ∷ [])
     ((0 ∷ 1 ∷ []) ∷ (1 ∷ 1 ∷ []) ∷ (0 ∷ 0 ∷ []) ∷ (1 ∷ 0 ∷ []) ∷ (1 ∷ 1 ∷ []) ∷ (0 ∷ 1 ∷ []) ∷ (1 ∷ 0 ∷ []) ∷ [])
     (0x49 ∷ 0x3b ∷ [])
+    ∷ packing 2 7 (73 ∷ 59 ∷ [])
+    (0x01 ∷ 0x02 ∷ 0x72 ∷ 0xd8 ∷ 0x02 ∷ 0x03 ∷ 0x07 ∷ 0x00 ∷ 0x04 ∷ 0x00 ∷ 0x00 ∷ 0x00 ∷ 0x64 ∷ 0x6d ∷ 0x75 ∷ 0x6c ∷ [])
+    ∷ wording (5 ∷ 1 ∷ []) (2 ^ 64 + 5)
     ∷ stepping
     ((2 ∷ 4 ∷ 2 ∷ 2 ∷ []) ∷ (2 ∷ 4 ∷ 2 ∷ 3 ∷ []) ∷ (3 ∷ 4 ∷ 2 ∷ 3 ∷ []) ∷ (3 ∷ 3 ∷ 2 ∷ 3 ∷ []) ∷ (3 ∷ 3 ∷ 3 ∷ 3 ∷ []) ∷ [])
     (1 ∷ 0 ∷ 0 ∷ 1 ∷ [])
@@ -72,7 +84,7 @@ cases =
     ∷ []
 
 pub cases-hold : AllHold cases
-unfolding tabulate joined same count ones odds bitAt byteOf bytesFor packBits addRows doubleRow bump rowsFrom startMatrix pairsFrom additions step orderFrom stepOrder matrixAfter orderAfter startOrder stepBits matrixIn orderIn lastMatrix endOrder answerRow scalarBit xor dealt deal picked passed rearrange orderToGo encodedStart encodedBits encodeWith houseOrder encode difference operations entryOf block blockIn entriesIn signedByte entryBytes traceBytes doublings additionCount stepRegisters registersAfter modulus sumOf combination timesSigned signedSum plainRule differenceAdd differenceRule startFrom startRegisters plainRegisters differenceRegisters answerRegister flatten
+unfolding tabulate joined same count ones odds all numberOf bitAt byteOf bytesFor packBits bitsLength addRows doubleRow bump rowsFrom startMatrix pairsFrom additions step orderFrom stepOrder matrixAfter orderAfter startOrder stepBits matrixIn orderIn lastMatrix endOrder answerRow scalarBit xor dealt deal picked passed rearrange orderToGo encodedStart encodedBits encodeWith houseOrder encode difference operations entryOf block blockIn entriesIn signedByte entryBytes traceBytes doublings additionCount stepRegisters registersAfter modulus sumOf combination timesSigned signedSum plainRule differenceAdd differenceRule startFrom startRegisters plainRegisters differenceRegisters answerRegister flatten mark trailerSize bodyLength trailerByte dIn answerIn lIn distanceIn markIn bodyPlace bodyIn planIn twoBytes fourBytes fileOf _then_ unless within dim len eachOnce isArrangement order answer sameBytes trailer distance planRefusal unpackRefusal
 cases-hold = (
   (refl, refl, refl),
   (
@@ -93,7 +105,7 @@ cases-hold = (
                   (refl, refl, refl),
                   (
                     (refl, refl, refl),
-                    ((refl, refl, refl), ((refl, refl, refl), ((refl, refl), (refl, tt)))),
+                    ((refl, refl, refl), ((refl, refl, refl), ((refl, refl), ((refl, refl, refl), (refl, (refl, tt)))))),
                   ),
                 ),
               ),

@@ -1,0 +1,9 @@
+-- The laws that the encoder's proofs rest on.
+pub mod Words
+pub mod Below
+pub mod Digits
+pub mod Gathered
+pub mod Dealt
+pub mod Parting
+pub mod Written
+pub mod Backward

@@ -1,0 +1,95 @@
+-- Laws of numbers in words: a bit stands in one word, and the words of each number among those of all.
+-- Assumes nothing.
+use Prim.Native.Nat.{ℕ, zero, suc, _+_, _-_, _*_, _/_, _%_, _^_, _≤_, _<_}
+use mathlib.Core.Path.{_≡_, sym, ap, _∙_}
+use mathlib.Core.List.{List, [], _∷_}
+use native.Mathlib.Nat.{zero-div, suc-inj, suc-ne-zero, suc-mul, mul-le-mul-right}
+use native.Mathlib.Omega.{arith}
+use lib.ListN.{length, getD, take, drop}
+use lib.Seq.{getD-take, getD-drop}
+use lib.Pow.{field, mod-mod-pow, shr-shr}
+use Rattle.ladder.specs.Lists.{all}
+use Rattle.ladder.specs.Numbers.{numberOf, numbersOf, scalarWords}
+use Rattle.ladder.proofs.Lists.{getD-tabulate}
+use Rattle.ladder.proofs.Numbers.{take-below, drop-below}
+use Rattle.encode.specs.Inner.Scalars.{Shaped}
+
+-- A bit below place b is one of the number's lowest b bits.
+pub low-bit : (n b e : ℕ) → e < b → n / 2 ^ e % 2 ≡ n % 2 ^ b / 2 ^ e % 2
+low-bit n b e h =
+    let all : b - suc e + (1 + e) ≡ b = omega arith in
+    sym (field n 1 e)
+    ∙ ap (λ m. m / 2 ^ e) (sym (mod-mod-pow n (b - suc e) (1 + e)) ∙ ap (λ k. n % 2 ^ k % 2 ^ (1 + e)) all)
+    ∙ field (n % 2 ^ b) 1 e
+
+-- The words after the lowest are what is left past 64 bits.
+past-word : (w : ℕ) (ws : List ℕ) (q r : ℕ) → w < 2 ^ 64
+    → numberOf (w ∷ ws) / 2 ^ (64 * suc q + r) ≡ numberOf ws / 2 ^ (64 * q + r)
+unfolding numberOf
+past-word w ws q r h =
+    let further : 64 * suc q + r ≡ 64 + (64 * q + r) = omega arith in
+    ap (λ e. (w + 2 ^ 64 * numberOf ws) / 2 ^ e) further
+    ∙ sym (shr-shr (w + 2 ^ 64 * numberOf ws) 64 (64 * q + r))
+    ∙ ap (λ m. m / 2 ^ (64 * q + r)) (omega arith)
+
+-- Bit r of word q.
+number-bit : (ws : List ℕ) → ((i : ℕ) → getD ws i 0 < 2 ^ 64) → (q r : ℕ) → r < 64
+    → numberOf ws / 2 ^ (64 * q + r) % 2 ≡ getD ws q 0 / 2 ^ r % 2
+unfolding numberOf
+number-bit [] h q r l = ap (λ m. m % 2) (zero-div (2 ^ (64 * q + r)) ∙ sym (zero-div (2 ^ r)))
+number-bit (w ∷ ws) h zero r l =
+    let first : 64 * 0 + r ≡ r = omega arith in
+    ap (λ e. (w + 2 ^ 64 * numberOf ws) / 2 ^ e % 2) first
+    ∙ low-bit (w + 2 ^ 64 * numberOf ws) 64 r l
+    ∙ ap (λ m. m / 2 ^ r % 2) (omega (arith, h zero))
+number-bit (w ∷ ws) h (suc q) r l =
+    ap (λ m. m % 2) (past-word w ws q r (h zero)) ∙ number-bit ws (λ i. h (suc i)) q r l
+
+-- What is left past all words but the top one is in the top word.
+pub number-top : (ws : List ℕ) → ((i : ℕ) → getD ws i 0 < 2 ^ 64) → (q r : ℕ) → length ws ≡ suc q
+    → numberOf ws / 2 ^ (64 * q + r) ≡ getD ws q 0 / 2 ^ r
+unfolding numberOf
+number-top [] h q r e = absurd (suc-ne-zero q (sym e))
+number-top (w ∷ []) h zero r e =
+    let first : 64 * 0 + r ≡ r = omega arith in
+    ap (λ k. (w + 2 ^ 64 * 0) / 2 ^ k) first ∙ ap (λ m. m / 2 ^ r) (omega arith)
+number-top (w ∷ v ∷ ws) h zero r e = absurd (omega arith)
+number-top (w ∷ ws) h (suc q) r e = past-word w ws q r (h zero) ∙ number-top ws (λ i. h (suc i)) q r (suc-inj e)
+
+-- ---- one of the numbers in words
+
+-- The words of number j, where each number has k.
+abbrev pub own : ℕ → List ℕ → ℕ → List ℕ
+own k ws j = take k (drop (j * k) ws)
+
+pub number-at : (d k : ℕ) (ws : List ℕ) (j : ℕ) → j < d → getD (numbersOf d k ws) j 0 ≡ numberOf (own k ws j)
+unfolding numbersOf
+number-at d k ws j h = getD-tabulate d (λ i. numberOf (own k ws i)) j 0 h
+
+module _ (k : ℕ) (ws : List ℕ) (words : (i : ℕ) → getD ws i 0 < 2 ^ 64) (j : ℕ) where
+  pub own-below : (i : ℕ) → getD (own k ws j) i 0 < 2 ^ 64
+  own-below = take-below (2 ^ 64) k (drop (j * k) ws) (drop-below (2 ^ 64) (j * k) ws words)
+
+  pub own-at : (q : ℕ) → q < k → getD (own k ws j) q 0 ≡ getD ws (j * k + q) 0
+  own-at q h = getD-take k (drop (j * k) ws) q 0 h ∙ getD-drop (j * k) ws q 0
+
+  -- Bit i of number j stands in its word i / 64.
+  pub own-bit : (i : ℕ) → i / 64 < k → getD ws (j * k + i / 64) 0 / 2 ^ (i % 64) % 2 ≡ numberOf (own k ws j) / 2 ^ i % 2
+  own-bit i h =
+      let parts : i ≡ 64 * (i / 64) + i % 64 = omega arith in
+      sym
+      (ap (λ e. numberOf (own k ws j) / 2 ^ e % 2) parts
+      ∙ number-bit (own k ws j) own-below (i / 64) (i % 64) (omega arith)
+      ∙ ap (λ w. w / 2 ^ (i % 64) % 2) (own-at (i / 64) h))
+
+-- The words of number j end within those of all d.
+pub within : (d k n j : ℕ) → n ≡ d * k → j < d → j * k + k ≤ n
+within d k n j e h = omega (arith, suc-mul j k, mul-le-mul-right k h)
+
+pub words-within : (d l : ℕ) (ws : List ℕ) → Shaped d l ws → (k j : ℕ) → k ≡ scalarWords l → j < d → j * k + k ≤ length ws
+words-within d l ws s k j e h = within d k (length ws) j (s .long ∙ ap (λ n. d * n) (sym e)) h
+
+-- Bit i of l bits stands in one of the words.
+pub word-within : (l k i : ℕ) → k ≡ scalarWords l → i < l → i / 64 < k
+unfolding scalarWords
+word-within l k i e h = omega arith

@@ -1,0 +1,4 @@
+-- Definitions that only inner contracts need.
+pub mod Scalars
+pub mod Order
+pub mod Packing
