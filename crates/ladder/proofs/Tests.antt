@@ -14,7 +14,7 @@ use lib.ListN.{length, drop, getD, length-map, List·getD-map, List·getD-eq-def
 use lib.Seq.{getD-drop}
 use Rattle.ladder.specs.Lists.{same, count, all}
 use Rattle.ladder.specs.Matrix.{Arrangement}
-use Rattle.ladder.specs.Refusals.{_then_, unless, within, eachOnce, isArrangement, isUnit, isZero}
+use Rattle.ladder.specs.Refusals.{_then_, refusing, unless, within, eachOnce, isArrangement, isUnit, isZero}
 use Rattle.ladder.proofs.Lists.{getD-map}
 
 -- ---- tests and their order
@@ -74,6 +74,17 @@ pub unless-is : (test : Bool) (n : ℕ) → (unless test n ≡ 0) ⊎ (unless te
 unfolding unless
 unless-is true n = inl refl
 unless-is false n = inr refl
+
+-- What a call leaves where nothing is refused, and where something is.
+pub refusing-no : {A : Type 0} (n : ℕ) (refused accepted : A) → n ≡ 0 → refusing n refused accepted ≡ accepted
+unfolding refusing
+refusing-no zero refused accepted e = refl
+refusing-no (suc n) refused accepted e = absurd (omega arith)
+
+pub refusing-yes : {A : Type 0} (n : ℕ) (refused accepted : A) → (n ≡ 0 → ⊥) → refusing n refused accepted ≡ refused
+unfolding refusing
+refusing-yes zero refused accepted e = absurd (e refl)
+refusing-yes (suc n) refused accepted e = refl
 
 -- ---- what tests say
 

@@ -25,6 +25,11 @@ suc m then n = suc m
 unfoldable pub unless : Bool → ℕ → ℕ
 unless test n = cond test 0 n
 
+-- What a call answers or leaves, n being its refusal: the first where it refuses, the second where it does not.
+unfoldable pub refusing : {A : Type 0} → ℕ → A → A → A
+refusing zero refused accepted = accepted
+refusing (suc n) refused accepted = refused
+
 -- A number lies in lo..hi.
 unfoldable pub within : ℕ → ℕ → ℕ → Bool
 within lo hi n = leb lo n && leb n hi
