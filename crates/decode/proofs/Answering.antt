@@ -1,0 +1,150 @@
+-- From the walk's last state and the lower numbers in words to the entries of a row.
+-- Assumes nothing.
+use Prim.Native.Nat.{ℕ, zero, suc, pred, _+_, _-_, _*_, _/_, _%_, _^_, _≤_, _<_}
+use mathlib.Core.Path.{_≡_, refl, sym, ap, ap₂, subst, _∙_}
+use mathlib.Core.List.{List, [], _∷_, _++_, map}
+use native.Mathlib.Nat.{pow-suc, add-mod, mod-mod, mod-add-mod}
+use native.Mathlib.Decide.{decLe}
+use native.Mathlib.Omega.{arith}
+use lib.IntN.{ℤ, pos}
+use lib.ListN.{length, getD, take, drop, replicate, length-map, length-take, take-append-drop, List·getD-append, List·getD-eq-default}
+use lib.Seq.{take-take, getD-take}
+use Rattle.ladder.specs.Lists.{tabulate, count}
+use Rattle.ladder.specs.Matrix.{Arrangement, orderAfter, signsAfter}
+use Rattle.ladder.specs.Numbers.{numbersOf, wordsOfAll, valueWords}
+use Rattle.ladder.specs.Walk.{Walk, walkOf, orderOf}
+use Rattle.ladder.specs.Inner.Decoding.{digit, walked, walkedEntry}
+use Rattle.ladder.proofs.Lists.{getD-map, length-tabulate, getD-tabulate, tabulate-same, count-append}
+use Rattle.ladder.proofs.Numbers.{numbersOf-wordsOfAll, value-fits, length-wordsOfAll}
+use Rattle.ladder.proofs.Tests.{count-suc}
+use Rattle.ladder.proofs.Walk.{order-of-walk, length-orderAfter, length-signsAfter}
+use Rattle.walk.specs.Inner.Ready.{Ready, Columns, Units}
+use Rattle.walk.specs.Inner.ReadBits.{bitsAt}
+use Rattle.decode.specs.Inner.{AtStart, Lowered, Raisable, raised, walkedRow}
+use Rattle.decode.proofs.Lowering.{length-bitsAt}
+use Rattle.decode.proofs.Words.{digit-small}
+
+-- ---- the number that a walk yields
+
+-- The number of n digits is below 2^n, and its last digit is that of the last sign.
+pub walked-below : (d : ℕ) (S : List ℕ) (f : ℕ → List ℕ) (n j : ℕ) → walked d S f n j < 2 ^ n
+unfolding walked
+walked-below d S f zero j = omega arith
+walked-below d S f (suc n) j =
+    omega (arith, walked-below d S f n j, digit-small (getD (signsAfter d S f (suc n)) j (pos 0)), pow-suc 2 n)
+
+pub walked-last : (d : ℕ) (S : List ℕ) (f : ℕ → List ℕ) (n j : ℕ) → 1 ≤ n
+    → walked d S f n j % 2 ≡ digit (getD (signsAfter d S f n) j (pos 0))
+unfolding walked
+walked-last d S f zero j h = absurd (omega arith)
+walked-last d S f (suc n) j h = omega (arith, digit-small (getD (signsAfter d S f (suc n)) j (pos 0)))
+
+-- ---- columns above a row
+
+-- The first d places of an order hold columns 1 to d.
+pub places-inside : (d : ℕ) (order : List ℕ) → d ≤ 8 → Columns d order → (i : ℕ) → i < d → (1 ≤ getD order i 0) × (getD order i 0 ≤ 8)
+places-inside d order h c i b =
+    let T = map pred (take d order) in
+    let e : getD order i 0 ≡ suc (getD T i 0) =
+    sym (getD-take d order i 0 b) ∙ ap (λ l. getD l i 0) (c .counted)
+    ∙ getD-map suc T i 0 0 (omega (arith, c .columns .long)) in
+    (omega arith, omega (arith, c .columns .inside i b))
+
+-- A column is counted as often among the first places from 1 as from 0.
+pub counted-above : (d : ℕ) (order : List ℕ) → Columns d order → (row j : ℕ) → row ≤ d
+    → count (suc j) (take row order) ≡ count j (take row (map pred (take d order)))
+counted-above d order c row j h =
+    ap (count (suc j))
+    (sym (take-take row d order h) ∙ ap (take row) (c .counted) ∙ take-map row (map pred (take d order)))
+    ∙ count-suc j (take row (map pred (take d order)))
+  where
+    take-map : (n : ℕ) (l : List ℕ) → take n (map suc l) ≡ map suc (take n l)
+    take-map zero l = refl
+    take-map (suc n) [] = refl
+    take-map (suc n) (a ∷ l) = ap (λ r. suc a ∷ r) (take-map n l)
+
+pub counted-few : (d : ℕ) (S : List ℕ) → Arrangement d S → (row j : ℕ) → j < d → count j (take row S) ≤ 1
+counted-few d S a row j h =
+    omega (arith, a .once j h, ap (count j) (take-append-drop row S), count-append j (take row S) (drop row S))
+
+-- ---- the entries
+
+same-d : {w : Walk} {l : ℕ} {bytes : List ℕ} {last : Walk} {values : List ℕ} → Lowered w l bytes last values → last .d ≡ w .d
+unfolding walkOf
+same-d p = ap (λ v. v .d) (p .walk)
+
+-- The last walk state's order holds the columns.
+pub last-columns : {w : Walk} {l : ℕ} {bytes : List ℕ} {last : Walk} {values : List ℕ} → Lowered w l bytes last values
+    → Columns (w .d) (last .order)
+last-columns {last} p = subst (λ n. Columns n (last .order)) (same-d p) (p .ready .order)
+
+module _ {w : Walk} {l : ℕ} {bytes : List ℕ} {last : Walk} {values : List ℕ} (p : Lowered w l bytes last values)
+    (low : 1 ≤ l) (ready : Ready w) (row : ℕ) (inside : row ≤ w .d) (above : List ℕ)
+    (counts : (j : ℕ) → j < 8 → getD above j 0 ≡ count (suc j) (take row (last .order))) where
+  abbrev N : ℕ → ℕ
+  N = walked (w .d) (orderOf w) (bitsAt (w .d) bytes) l
+
+  last-order : map pred (take (w .d) (last .order)) ≡ orderAfter (orderOf w) (bitsAt (w .d) bytes) l
+  unfolding orderOf
+  last-order =
+      ap (λ n. map pred (take n (last .order))) (sym (same-d p)) ∙ ap orderOf (p .walk)
+      ∙ order-of-walk (w .d) (orderAfter (orderOf w) (bitsAt (w .d) bytes) l) (signsAfter (w .d) (orderOf w) (bitsAt (w .d) bytes) l)
+      (length-orderAfter (w .d) (orderOf w) (bitsAt (w .d) bytes) (ready .order .columns .long) (length-bitsAt (w .d) bytes) l)
+
+  above-is : (j : ℕ) → j < w .d → getD above j 0 ≡ count j (take row (orderAfter (orderOf w) (bitsAt (w .d) bytes) l))
+  above-is j h =
+      counts j (omega (arith, ready .high)) ∙ counted-above (w .d) (last .order) (last-columns p) row j inside
+      ∙ ap (λ S. count j (take row S)) last-order
+
+  sign-is : (j : ℕ) → j < w .d
+      → getD (last .signs) j (pos 0) ≡ getD (signsAfter (w .d) (orderOf w) (bitsAt (w .d) bytes) l) j (pos 0)
+  unfolding walkOf
+  sign-is j h =
+      ap (λ v. getD (v .signs) j (pos 0)) (p .walk)
+      ∙ List·getD-append (signsAfter (w .d) (orderOf w) (bitsAt (w .d) bytes) l) (replicate (8 - w .d) (pos 0)) (pos 0) j
+      (omega (arith, length-signsAfter (w .d) (orderOf w) (bitsAt (w .d) bytes) l))
+
+  number-at : (j : ℕ) → getD (tabulate (w .d) N) j 0 ≤ 2 ^ l
+  number-at j = go (decLe (suc j) (w .d))
+    where
+      go : Dec (j < w .d) → getD (tabulate (w .d) N) j 0 ≤ 2 ^ l
+      go (yes h) =
+          omega (arith, getD-tabulate (w .d) N j 0 h, walked-below (w .d) (orderOf w) (bitsAt (w .d) bytes) l j)
+      go (no h) = omega (arith, List·getD-eq-default (tabulate (w .d) N) 0 {n = j} (omega (arith, length-tabulate (w .d) N)))
+
+  numbers : numbersOf (w .d) (valueWords l) values ≡ tabulate (w .d) N
+  numbers =
+      ap (numbersOf (w .d) (valueWords l)) (p .lower)
+      ∙ ap (λ n. numbersOf n (valueWords l) (wordsOfAll (valueWords l) (tabulate (w .d) N))) (sym (length-tabulate (w .d) N))
+      ∙ numbersOf-wordsOfAll (valueWords l) (tabulate (w .d) N) (λ j. value-fits l (getD (tabulate (w .d) N) j 0) (number-at j))
+
+  number-is : (j : ℕ) → j < w .d → getD (numbersOf (w .d) (valueWords l) values) j 0 ≡ N j
+  number-is j h = ap (λ ns. getD ns j 0) numbers ∙ getD-tabulate (w .d) N j 0 h
+
+  pub raisable : l ≤ 576 → Raisable (w .d) (valueWords l) (last .signs) above values
+  unfolding valueWords
+  raisable high = record {
+    dHigh = ready .high;
+    kLow = omega arith;
+    kHigh = omega arith;
+    long = ap length (p .lower) ∙ length-wordsOfAll (valueWords l) (tabulate (w .d) N) ∙ ap (λ n. n * valueWords l) (length-tabulate (w .d) N);
+    units = subst (λ n. Units n (last .signs)) (same-d p) (p .ready .signs);
+    few = λ j h.
+        subst (λ n. n ≤ 1) (sym (counts j (omega (arith, ready .high)) ∙ counted-above (w .d) (last .order) (last-columns p) row j inside))
+        (counted-few (w .d) (map pred (take (w .d) (last .order))) (last-columns p .columns) row j h);
+    room = λ j h.
+        subst (λ n. n + 1 < 2 ^ (64 * valueWords l)) (sym (number-is j h))
+        (value-fits l (N j + 1) (omega (arith, walked-below (w .d) (orderOf w) (bitsAt (w .d) bytes) l j)));
+  }
+
+  pub raised-row : raised (w .d) (valueWords l) (last .signs) above values ≡ walkedRow w l bytes row
+  unfolding raised walkedRow walkedEntry
+  raised-row =
+      tabulate-same (w .d)
+      (λ j. getD (numbersOf (w .d) (valueWords l) values) j 0 + (digit (getD (last .signs) j (pos 0)) + getD above j 0) % 2)
+      (λ j. N j + (N j + count j (take row (orderAfter (orderOf w) (bitsAt (w .d) bytes) l))) % 2)
+      (λ j h.
+      ap₂ (λ a b. a + b) (number-is j h)
+      (ap₂ (λ a b. (a + b) % 2)
+      (ap digit (sign-is j h) ∙ sym (walked-last (w .d) (orderOf w) (bitsAt (w .d) bytes) l j low)) (above-is j h)
+      ∙ mod-add-mod (N j) 2 (count j (take row (orderAfter (orderOf w) (bitsAt (w .d) bytes) l)))))

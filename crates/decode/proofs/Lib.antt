@@ -1,0 +1,5 @@
+pub mod Words
+pub mod Partly
+pub mod Lowering
+pub mod Raising
+pub mod Answering

@@ -1,0 +1,312 @@
+-- From lower numbers to entries: columns counted above a row, and values raised one by one.
+-- Assumes nothing.
+use Prim.Native.Nat.{ℕ, zero, suc, _+_, _-_, _*_, _/_, _%_, _^_, _≤_, _<_}
+use mathlib.Core.Path.{_≡_, refl, sym, ap, ap₂, subst, subst₂, _∙_}
+use mathlib.Core.Logic.{_≢_}
+use mathlib.Core.Bool.{cond}
+use mathlib.Core.List.{List, [], _∷_, _++_, map, flatten, append-assoc}
+use borrow.Author.Tests.{lt-ltb, le-ltb, eq-eqb, ne-eqb}
+use borrow.Rule.Slice.PartMut.{putMid, post-is}
+use native.Mathlib.Nat.{le-of-suc-le-suc, not-suc-le-zero, zero-mul, suc-mul, mul-le-mul-right, add-zero}
+use native.Mathlib.Decide.{ℕ-discrete, decLe}
+use native.Mathlib.Numerals.{add-one}
+use native.Mathlib.Omega.{arith}
+use lib.Dec.{ltb}
+use lib.ListN.{length, getD, set, replicate, take, drop, length-set, length-take, length-drop, List·getD-eq-default}
+use lib.IntN.{ℤ, pos}
+use lib.Seq.{length-take-le, getD-set-same, getD-set-other, take-suc, take-at, drop-at, take-append-add, drop-append-add, ext-getD}
+use Rattle.ladder.specs.Lists.{tabulate, count, same}
+use Rattle.ladder.specs.Numbers.{numberOf, numbersOf, wordsOf, wordsOfAll}
+use Rattle.ladder.proofs.Lists.{same-is, count-append, length-tabulate, getD-tabulate, tabulate-same, tabulate-getD}
+use Rattle.ladder.specs.Inner.Decoding.{digit}
+use Rattle.ladder.proofs.Numbers.{length-wordsOf, numberOf-wordsOf, length-wordsOfAll, length-numbersOf, wordsOfAll-numbersOf}
+use Rattle.decode.specs.Inner.{OneRaisable, raisedOne, Raisable, raised}
+use Rattle.decode.proofs.Words.{digit-small}
+
+-- ---- columns above a row
+
+count-le : (j : ℕ) (s : List ℕ) → count j s ≤ length s
+unfolding count
+count-le j [] = omega arith
+count-le j (i ∷ s) = omega (arith, same-is i j, count-le j s)
+
+pub record Above (order above : List ℕ) (i : ℕ) : Type 0 where
+  pub long : length above ≡ 8
+  pub counts : (j : ℕ) → j < 8 → getD above j 0 ≡ count (suc j) (take i order)
+
+-- A count is at most the places passed.
+pub above-few : (order above : List ℕ) (i j : ℕ) → Above order above i → j < 8 → getD above j 0 ≤ i
+above-few order above i j a h = omega (arith, a .counts j h, count-le (suc j) (take i order), length-take i order)
+
+place-inside : (order : List ℕ) (i : ℕ) → 1 ≤ getD order i 0 → i < length order
+place-inside order i low = go (decLe (suc i) (length order))
+  where
+    go : Dec (i < length order) → i < length order
+    go (yes h) = h
+    go (no h) = absurd (omega (arith, List·getD-eq-default order 0 {n = i} (omega arith)))
+
+count-place : (order : List ℕ) (i c : ℕ) → i < length order → count c (take (i + 1) order) ≡ count c (take i order) + same (getD order i 0) c
+unfolding count
+count-place order i c h =
+    ap (λ n. count c (take n order)) (add-one i) ∙ ap (count c) (take-suc order i 0 h)
+    ∙ count-append c (take i order) (getD order i 0 ∷ []) ∙ omega arith
+
+pub above-next : (order above : List ℕ) (i : ℕ) → Above order above i → 1 ≤ getD order i 0 → getD order i 0 ≤ 8
+    → Above order (set above (getD order i 0 - 1) (getD above (getD order i 0 - 1) 0 + 1)) (i + 1)
+above-next order above i a low high = record {
+  long = length-set above (getD order i 0 - 1) _ ∙ a .long;
+  counts = λ j h. at j h (ℕ-discrete j (getD order i 0 - 1)) ∙ sym (count-place order i (suc j) (place-inside order i low));
+}
+  where
+    at : (j : ℕ) → j < 8 → Dec (j ≡ getD order i 0 - 1)
+        → getD (set above (getD order i 0 - 1) (getD above (getD order i 0 - 1) 0 + 1)) j 0
+        ≡ count (suc j) (take i order) + same (getD order i 0) (suc j)
+    at j h (yes e) =
+        ap (λ n. getD (set above (getD order i 0 - 1) (getD above (getD order i 0 - 1) 0 + 1)) n 0) e
+        ∙ getD-set-same above (getD order i 0 - 1) _ 0 (omega (arith, a .long))
+        ∙ omega (arith, ap (λ n. getD above n 0) e, a .counts j h, same-is (getD order i 0) (suc j))
+    at j h (no e) =
+        getD-set-other above (getD order i 0 - 1) j _ 0 e
+        ∙ omega (arith, a .counts j h, same-is (getD order i 0) (suc j))
+
+-- ---- the words of one value among many
+
+-- The words of value j ..
+pub part-of : (k : ℕ) (ns : List ℕ) (j : ℕ) → j < length ns → take k (drop (j * k) (wordsOfAll k ns)) ≡ wordsOf k (getD ns j 0)
+unfolding wordsOfAll flatten
+part-of k [] j h = absurd (not-suc-le-zero h)
+part-of k (n ∷ ns) zero h =
+    ap (λ m. take k (drop m (wordsOf k n ++ wordsOfAll k ns))) (zero-mul k)
+    ∙ take-at (wordsOf k n) (wordsOfAll k ns) k (length-wordsOf k n)
+part-of k (n ∷ ns) (suc j) h =
+    let e : suc j * k ≡ length (wordsOf k n) + j * k = omega (arith, suc-mul j k, length-wordsOf k n) in
+    ap (λ m. take k (drop m (wordsOf k n ++ wordsOfAll k ns))) e
+    ∙ ap (take k) (drop-append-add (wordsOf k n) (wordsOfAll k ns) (j * k))
+    ∙ part-of k ns j (le-of-suc-le-suc h)
+
+-- .. replaced by those of another number.
+pub part-set : (k : ℕ) (ns : List ℕ) (j x : ℕ) → j < length ns
+    → take (j * k) (wordsOfAll k ns) ++ (wordsOf k x ++ drop (j * k + k) (wordsOfAll k ns)) ≡ wordsOfAll k (set ns j x)
+unfolding wordsOfAll flatten
+part-set k [] j x h = absurd (not-suc-le-zero h)
+part-set k (n ∷ ns) zero x h =
+    let e : zero * k + k ≡ k = omega (arith, zero-mul k) in
+    ap₂ (λ a b. take a (wordsOf k n ++ wordsOfAll k ns) ++ (wordsOf k x ++ drop b (wordsOf k n ++ wordsOfAll k ns))) (zero-mul k) e
+    ∙ ap (λ t. wordsOf k x ++ t) (drop-at (wordsOf k n) (wordsOfAll k ns) k (length-wordsOf k n))
+part-set k (n ∷ ns) (suc j) x h =
+    let A = wordsOf k n in
+    let B = wordsOfAll k ns in
+    let e : suc j * k ≡ length A + j * k = omega (arith, suc-mul j k, length-wordsOf k n) in
+    let f : suc j * k + k ≡ length A + (j * k + k) = omega (arith, suc-mul j k, length-wordsOf k n) in
+    ap₂ (λ a b. take a (A ++ B) ++ (wordsOf k x ++ drop b (A ++ B))) e f
+    ∙ ap₂ (λ s t. s ++ (wordsOf k x ++ t)) (take-append-add A B (j * k)) (drop-append-add A B (j * k + k))
+    ∙ append-assoc A (take (j * k) B) (wordsOf k x ++ drop (j * k + k) B)
+    ∙ ap (λ t. A ++ t) (part-set k ns j x (le-of-suc-le-suc h))
+
+-- ---- values raised one by one
+
+-- What has been added to value i when the values before j are done.
+abbrev pub upTo : ℕ → (ℕ → ℕ) → ℕ → ℕ
+upTo j x i = cond (ltb i j) (x i) 0
+
+pub done : (j : ℕ) (x : ℕ → ℕ) (i : ℕ) → i < j → upTo j x i ≡ x i
+done j x i h = ap (λ t. cond t (x i) 0) (lt-ltb i j h)
+
+pub to-do : (j : ℕ) (x : ℕ → ℕ) (i : ℕ) → j ≤ i → upTo j x i ≡ 0
+to-do j x i h = ap (λ t. cond t (x i) 0) (le-ltb i j h)
+
+-- The values when those before j are done.
+abbrev pub raisedTo : ℕ → (ℕ → ℕ) → (ℕ → ℕ) → ℕ → List ℕ
+raisedTo d n x j = tabulate d (λ i. n i + upTo j x i)
+
+same-upTo : (x : ℕ → ℕ) (i j : ℕ) → i ≢ j → upTo (j + 1) x i ≡ upTo j x i
+same-upTo x i j ne = go (decLe (suc i) j)
+  where
+    go : Dec (i < j) → upTo (j + 1) x i ≡ upTo j x i
+    go (yes h) = done (j + 1) x i (omega arith) ∙ sym (done j x i h)
+    go (no h) = to-do (j + 1) x i (omega arith) ∙ sym (to-do j x i (omega arith))
+
+pub raised-set : (d : ℕ) (n x : ℕ → ℕ) (j : ℕ) → j < d → set (raisedTo d n x j) j (n j + x j) ≡ raisedTo d n x (j + 1)
+raised-set d n x j h =
+    let R = raisedTo d n x j in
+    let long = length-tabulate d (λ i. n i + upTo j x i) in
+    ext-getD 0 (set R j (n j + x j)) (raisedTo d n x (j + 1))
+    (length-set R j (n j + x j) ∙ long ∙ sym (length-tabulate d (λ i. n i + upTo (j + 1) x i)))
+    (λ i b. at i (omega (arith, length-set R j (n j + x j), long)) (ℕ-discrete i j))
+  where
+    at : (i : ℕ) → i < d → Dec (i ≡ j) → getD (set (raisedTo d n x j) j (n j + x j)) i 0 ≡ getD (raisedTo d n x (j + 1)) i 0
+    at i b (yes e) =
+        ap (λ m. getD (set (raisedTo d n x j) j (n j + x j)) m 0) e
+        ∙ getD-set-same (raisedTo d n x j) j (n j + x j) 0 (omega (arith, length-tabulate d (λ i. n i + upTo j x i)))
+        ∙ sym
+        (ap (λ m. getD (raisedTo d n x (j + 1)) m 0) e
+        ∙ getD-tabulate d (λ i. n i + upTo (j + 1) x i) j 0 h
+        ∙ ap (λ m. n j + m) (done (j + 1) x j (omega arith)))
+    at i b (no e) =
+        getD-set-other (raisedTo d n x j) j i (n j + x j) 0 e
+        ∙ getD-tabulate d (λ i. n i + upTo j x i) i 0 b
+        ∙ sym (getD-tabulate d (λ i. n i + upTo (j + 1) x i) i 0 b ∙ ap (λ m. n i + m) (same-upTo x i j e))
+
+-- Nothing to add: the value stays.
+pub raised-skip : (d : ℕ) (n x : ℕ → ℕ) (j : ℕ) → x j ≡ 0 → raisedTo d n x j ≡ raisedTo d n x (j + 1)
+raised-skip d n x j z =
+    tabulate-same d (λ i. n i + upTo j x i) (λ i. n i + upTo (j + 1) x i) (λ i h. ap (λ m. n i + m) (at i (ℕ-discrete i j)))
+  where
+    at : (i : ℕ) → Dec (i ≡ j) → upTo j x i ≡ upTo (j + 1) x i
+    at i (yes e) = to-do j x i (omega arith) ∙ sym (done (j + 1) x i (omega arith) ∙ ap x e ∙ z)
+    at i (no e) = sym (same-upTo x i j e)
+
+-- No place is passed.
+pub above-none : (order : List ℕ) → Above order (replicate 8 0) 0
+unfolding count
+above-none order = record { long = refl; counts = λ j h. zeros 8 j }
+  where
+    zeros : (n j : ℕ) → getD (replicate n zero) j 0 ≡ 0
+    zeros zero j = refl
+    zeros (suc n) zero = refl
+    zeros (suc n) (suc j) = zeros n j
+
+-- ---- one value raised
+
+span : (j k : ℕ) → j * k + k - j * k ≡ k
+span j k = omega arith
+
+part-long : (k j : ℕ) (values : List ℕ) → j * k + k ≤ length values → length (take (j * k + k - j * k) (drop (j * k) values)) ≡ k
+part-long k j values h =
+    ap (λ n. length (take n (drop (j * k) values))) (span j k)
+    ∙ length-take-le k (drop (j * k) values) (omega (arith, length-drop (j * k) values))
+
+-- The part that is lent can take one more.
+pub part-room : (k j : ℕ) (values : List ℕ) → OneRaisable k j values
+    → numberOf (take (j * k + k - j * k) (drop (j * k) values)) + 1 < 2 ^ (64 * length (take (j * k + k - j * k) (drop (j * k) values)))
+part-room k j values p =
+    subst₂ (λ n m. numberOf (take n (drop (j * k) values)) + 1 < 2 ^ (64 * m)) (sym (span j k)) (sym (part-long k j values (p .inside))) (p .room)
+
+raised-by : (k j digit above : ℕ) (values : List ℕ) → digit ≢ above
+    → raisedOne k j digit above values
+    ≡ take (j * k) values ++ (wordsOf k (numberOf (take k (drop (j * k) values)) + 1) ++ drop (j * k + k) values)
+unfolding raisedOne
+raised-by k j digit above values ne =
+    ap (λ t. cond t values (take (j * k) values ++ (wordsOf k (numberOf (take k (drop (j * k) values)) + 1) ++ drop (j * k + k) values)))
+    (ne-eqb digit above ne)
+
+-- The whole with the part one more.
+pub part-raised : (k j digit above : ℕ) (values part : List ℕ) → OneRaisable k j values → digit ≢ above
+    → part
+    ≡ wordsOf (length (take (j * k + k - j * k) (drop (j * k) values))) (numberOf (take (j * k + k - j * k) (drop (j * k) values)) + 1)
+    → putMid (j * k) (j * k + k - j * k) values part ≡ raisedOne k j digit above values
+part-raised k j digit above values part p ne e =
+    ap₂ (λ m t. take (j * k) values ++ (m ++ t))
+    (e
+    ∙ ap₂ (λ n m. wordsOf n (numberOf (take m (drop (j * k) values)) + 1)) (part-long k j values (p .inside)) (span j k))
+    (post-is (j * k) (j * k + k) values (omega arith))
+    ∙ sym (raised-by k j digit above values ne)
+
+pub not-raised : (k j digit above : ℕ) (values : List ℕ) → digit ≡ above → values ≡ raisedOne k j digit above values
+unfolding raisedOne
+not-raised k j digit above values e =
+    sym
+    (ap (λ t. cond t values (take (j * k) values ++ (wordsOf k (numberOf (take k (drop (j * k) values)) + 1) ++ drop (j * k + k) values)))
+    (eq-eqb digit above e))
+
+-- ---- values raised one by one, under way
+
+-- What is added to value i.
+abbrev pub addedTo : List ℤ → List ℕ → ℕ → ℕ
+addedTo signs above i = (digit (getD signs i (pos 0)) + getD above i 0) % 2
+
+pub record Raising (d k : ℕ) (signs : List ℤ) (above start values : List ℕ) (j : ℕ) : Type 0 where
+  pub begun : Raisable d k signs above start
+  pub inside : j ≤ d
+  pub words : values ≡ wordsOfAll k (raisedTo d (λ i. getD (numbersOf d k start) i 0) (addedTo signs above) j)
+
+module _ {d k : ℕ} {signs : List ℤ} {above start values : List ℕ} {j : ℕ} (p : Raising d k signs above start values j) where
+  long-now : length values ≡ d * k
+  long-now =
+      ap length (p .words) ∙ length-wordsOfAll k (raisedTo d (λ i. getD (numbersOf d k start) i 0) (addedTo signs above) j)
+      ∙ ap (λ n. n * k) (length-tabulate d (λ i. getD (numbersOf d k start) i 0 + upTo j (addedTo signs above) i))
+
+  pub raising-long : length values ≡ length start
+  raising-long = long-now ∙ sym (p .begun .long)
+
+  -- Value j is as it came.
+  part-now : j < d → take k (drop (j * k) values) ≡ wordsOf k (getD (numbersOf d k start) j 0)
+  part-now h =
+      let R = raisedTo d (λ i. getD (numbersOf d k start) i 0) (addedTo signs above) j in
+      ap (λ l. take k (drop (j * k) l)) (p .words)
+      ∙ part-of k R j (omega (arith, length-tabulate d (λ i. getD (numbersOf d k start) i 0 + upTo j (addedTo signs above) i)))
+      ∙ ap (wordsOf k)
+      (getD-tabulate d (λ i. getD (numbersOf d k start) i 0 + upTo j (addedTo signs above) i) j 0 h
+      ∙ ap (λ m. getD (numbersOf d k start) j 0 + m) (to-do j (addedTo signs above) j (omega arith))
+      ∙ add-zero (getD (numbersOf d k start) j 0))
+
+  number-now : j < d → numberOf (take k (drop (j * k) values)) ≡ getD (numbersOf d k start) j 0
+  number-now h =
+      ap numberOf (part-now h)
+      ∙ numberOf-wordsOf k (getD (numbersOf d k start) j 0) (omega (arith, p .begun .room j h))
+
+  pub raising-room : j < d → OneRaisable k j values
+  raising-room h = record {
+    jHigh = omega (arith, p .begun .dHigh);
+    kHigh = p .begun .kHigh;
+    inside = omega (arith, long-now, mul-le-mul-right k h, suc-mul j k);
+    room = subst (λ n. n + 1 < 2 ^ (64 * k)) (sym (number-now h)) (p .begun .room j h);
+  }
+
+  -- Value j is done.
+  pub raising-next : j < d → (after : List ℕ)
+      → after ≡ raisedOne k j (digit (getD signs j (pos 0))) (getD above j 0) values → Raising d k signs above start after (j + 1)
+  raising-next h after e = record {
+    begun = p .begun;
+    inside = omega arith;
+    words = e ∙ next (ℕ-discrete (digit (getD signs j (pos 0))) (getD above j 0));
+  }
+    where
+      n : ℕ → ℕ
+      n i = getD (numbersOf d k start) i 0
+
+      next : Dec (digit (getD signs j (pos 0)) ≡ getD above j 0)
+          → raisedOne k j (digit (getD signs j (pos 0))) (getD above j 0) values ≡ wordsOfAll k (raisedTo d n (addedTo signs above) (j + 1))
+      next (yes q) =
+          let z : addedTo signs above j ≡ 0 = omega (arith, p .begun .few j h) in
+          sym (not-raised k j (digit (getD signs j (pos 0))) (getD above j 0) values q)
+          ∙ p .words ∙ ap (wordsOfAll k) (raised-skip d n (addedTo signs above) j z)
+      next (no q) =
+          let one : addedTo signs above j ≡ 1 = omega (arith, p .begun .few j h, digit-small (getD signs j (pos 0))) in
+          let R = raisedTo d n (addedTo signs above) j in
+          raised-by k j (digit (getD signs j (pos 0))) (getD above j 0) values q
+          ∙ ap₂ (λ l m. take (j * k) l ++ (wordsOf k (m + 1) ++ drop (j * k + k) l)) (p .words) (number-now h)
+          ∙ part-set k R j (n j + 1) (omega (arith, length-tabulate d (λ i. n i + upTo j (addedTo signs above) i)))
+          ∙ ap (wordsOfAll k) (ap (λ m. set R j (n j + m)) (sym one) ∙ raised-set d n (addedTo signs above) j h)
+
+-- Before the first value.
+pub raising-starts : (d k : ℕ) (signs : List ℤ) (above values : List ℕ) → Raisable d k signs above values
+    → ((i : ℕ) → getD values i 0 < 2 ^ 64) → Raising d k signs above values values 0
+raising-starts d k signs above values p words = record {
+  begun = p;
+  inside = omega arith;
+  words =
+      sym
+      (ap (wordsOfAll k)
+      (tabulate-same d (λ i. n i + upTo 0 (addedTo signs above) i) n
+      (λ i h. ap (λ m. n i + m) (to-do 0 (addedTo signs above) i (omega arith)) ∙ add-zero (n i))
+      ∙ all)
+      ∙ wordsOfAll-numbersOf d k values (p .long) words);
+}
+  where
+    n : ℕ → ℕ
+    n i = getD (numbersOf d k values) i 0
+
+    all : tabulate d (λ i. getD (numbersOf d k values) i 0) ≡ numbersOf d k values
+    all = ap (λ m. tabulate m (λ i. getD (numbersOf d k values) i 0)) (sym (length-numbersOf d k values)) ∙ tabulate-getD (numbersOf d k values) 0
+
+-- After the last.
+pub raising-ends : {d k : ℕ} {signs : List ℤ} {above start values : List ℕ} {j : ℕ} → Raising d k signs above start values j → d ≤ j
+    → values ≡ wordsOfAll k (raised d k signs above start)
+unfolding raised
+raising-ends {d} {k} {signs} {above} {start} {values} {j} p h =
+    p .words
+    ∙ ap (wordsOfAll k)
+    (tabulate-same d (λ i. getD (numbersOf d k start) i 0 + upTo j (addedTo signs above) i)
+    (λ i. getD (numbersOf d k start) i 0 + addedTo signs above i)
+    (λ i b. ap (λ m. getD (numbersOf d k start) i 0 + m) (done j (addedTo signs above) i (omega (arith, p .inside)))))

@@ -1,0 +1,18 @@
+-- A sign 1 or -1 as an i8: it comes back from its bits, and its negation fits.
+-- Assumes nothing.
+use mathlib.Core.Path.{_≡_}
+use mathlib.Core.Logic.{⊎-elim}
+use lib.IntN.{ℤ, pos, negℤ, _-ℤ_}
+use mir.Syntax.{w8}
+use mir.Val.{SFits, toZ, ofZ}
+use mir.Facts.{sfits-lit}
+use Rattle.walk.specs.Inner.Ready.{IsUnit}
+
+pub unit-kept : (s : ℤ) → IsUnit s → toZ w8 (ofZ w8 s) ≡ s
+unit-kept s = ⊎-elim (λ e. rw e) (λ e. rw e)
+
+pub unit-fits : (s : ℤ) → IsUnit s → SFits w8 (pos 0 -ℤ toZ w8 (ofZ w8 s))
+unit-fits s = ⊎-elim (λ e. rw e (sfits-lit tt)) (λ e. rw e (sfits-lit tt))
+
+pub unit-turned : (s : ℤ) → IsUnit s → toZ w8 (ofZ w8 (pos 0 -ℤ toZ w8 (ofZ w8 s))) ≡ negℤ s
+unit-turned s = ⊎-elim (λ e. rw e) (λ e. rw e)

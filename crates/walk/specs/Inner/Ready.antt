@@ -1,0 +1,37 @@
+-- A walk state that can be stepped.
+-- Assumes nothing.
+use Prim.Native.Nat.{ℕ, suc, pred, _-_, _≤_, _<_}
+use mathlib.Core.Path.{_≡_}
+use mathlib.Core.Logic.{_⊎_}
+use mathlib.Core.List.{List, _++_, map}
+use lib.IntN.{ℤ, pos, negsuc}
+use lib.ListN.{take, getD, replicate}
+use Rattle.ladder.specs.Matrix.{Arrangement, startSigns}
+use Rattle.ladder.specs.Walk.{Walk}
+
+-- The first d places of an order are an arrangement of the columns 1..d.
+pub record Columns (d : ℕ) (order : List ℕ) : Type 0 where
+  pub columns : Arrangement d (map pred (take d order))
+  pub counted : take d order ≡ map suc (map pred (take d order))
+
+-- A sign is 1 or -1 ..
+abbrev pub IsUnit : ℤ → Type 0
+IsUnit s = (s ≡ pos 1) ⊎ (s ≡ negsuc 0)
+
+-- .. and so are the signs of the first d columns.
+abbrev pub Units : ℕ → List ℤ → Type 0
+Units d signs = (j : ℕ) → j < d → IsUnit (getD signs j (pos 0))
+
+pub record Ready (w : Walk) : Type 0 where
+  pub low : 1 ≤ w .d
+  pub high : w .d ≤ 8
+  pub order : Columns (w .d) (w .order)
+  pub signs : Units (w .d) (w .signs)
+
+-- The walk state that a start order, columns from 1, begins with: all signs +1.
+unfoldable pub started : ℕ → List ℕ → Walk
+started d start = record {
+  d = d;
+  order = start ++ replicate (8 - d) 0;
+  signs = startSigns d ++ replicate (8 - d) (pos 0);
+}
