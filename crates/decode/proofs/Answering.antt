@@ -3,11 +3,11 @@
 use Prim.Native.Nat.{ℕ, zero, suc, pred, _+_, _-_, _*_, _/_, _%_, _^_, _≤_, _<_}
 use mathlib.Core.Path.{_≡_, refl, sym, ap, ap₂, subst, _∙_}
 use mathlib.Core.List.{List, [], _∷_, _++_, map}
-use native.Mathlib.Nat.{pow-suc, add-mod, mod-mod, mod-add-mod}
+use native.Mathlib.Nat.{pow-suc, mod-add-mod, mul-le-mul}
 use native.Mathlib.Decide.{decLe}
 use native.Mathlib.Omega.{arith}
 use lib.IntN.{ℤ, pos}
-use lib.ListN.{length, getD, take, drop, replicate, length-map, length-take, take-append-drop, List·getD-append, List·getD-eq-default}
+use lib.ListN.{length, getD, take, drop, replicate, length-replicate, take-append-drop, List·getD-append, List·getD-eq-default}
 use lib.Seq.{take-take, getD-take}
 use Rattle.ladder.specs.Lists.{tabulate, count}
 use Rattle.ladder.specs.Matrix.{Arrangement, orderAfter, signsAfter}
@@ -20,7 +20,7 @@ use Rattle.ladder.proofs.Tests.{count-suc}
 use Rattle.ladder.proofs.Walk.{order-of-walk, length-orderAfter, length-signsAfter}
 use Rattle.walk.specs.Inner.Ready.{Ready, Columns, Units}
 use Rattle.walk.specs.Inner.ReadBits.{bitsAt}
-use Rattle.decode.specs.Inner.{AtStart, Lowered, Raisable, raised, walkedRow}
+use Rattle.decode.specs.Inner.{AtStart, Lowered, Raisable, raised, walkedRow, Checkable}
 use Rattle.decode.proofs.Lowering.{length-bitsAt}
 use Rattle.decode.proofs.Words.{digit-small}
 
@@ -148,3 +148,13 @@ module _ {w : Walk} {l : ℕ} {bytes : List ℕ} {last : Walk} {values : List �
       (ap₂ (λ a b. (a + b) % 2)
       (ap digit (sign-is j h) ∙ sym (walked-last (w .d) (orderOf w) (bitsAt (w .d) bytes) l j low)) (above-is j h)
       ∙ mod-add-mod (N j) 2 (count j (take row (orderAfter (orderOf w) (bitsAt (w .d) bytes) l)))))
+
+-- ---- the scratch of check
+
+-- Eight values of ten words are enough.
+pub scratch-room : {w : Walk} {l : ℕ} {bytes : List ℕ} {row : ℕ} {scalars : List ℕ} → Checkable w l bytes row scalars → w .d * (l / 64 + 1) ≤ 80
+unfolding valueWords
+scratch-room {w} {l} p =
+    let a = p .begun (replicate (w .d * (l / 64 + 1)) 0) (length-replicate (w .d * (l / 64 + 1)) zero) in
+    let k : l / 64 + 1 ≤ 10 = omega (arith, a .lHigh) in
+    mul-le-mul (a .ready .high) k

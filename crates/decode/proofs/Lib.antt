@@ -3,3 +3,5 @@ pub mod Partly
 pub mod Lowering
 pub mod Raising
 pub mod Answering
+pub mod Decoded
+pub mod Equality

@@ -2,5 +2,5 @@
 mod dealing;
 mod order;
 mod packing;
-mod scalars;
+pub mod scalars;
 mod steps;

@@ -12,7 +12,7 @@ use Rattle.ladder.specs.Encoding.{scalarBit, xor, dealt, deal, picked, p
 use Rattle.ladder.specs.Trace.{difference, operations, entryOf, block, blockIn, entriesIn, signedByte, entryBytes, traceBytes, doublings, additionCount}
 use Rattle.ladder.specs.Registers.{stepRegisters, registersAfter, modulus, sumOf, combination, timesSigned, signedSum, plainRule, differenceAdd, differenceRule, startFrom, startRegisters, plainRegisters, differenceRegisters, answerRegister}
 use Rattle.ladder.specs.PlanFile.{mark, trailerSize, bodyLength, trailerByte, dIn, answerIn, lIn, distanceIn, markIn, bodyPlace, bodyIn, planIn, twoBytes, fourBytes, fileOf}
-use Rattle.ladder.specs.Refusals.{_then_, unless, within, dim, len, eachOnce, isArrangement, order, answer, sameBytes, trailer, distance, planRefusal, unpackRefusal}
+use Rattle.ladder.specs.Refusals.{_then_, unless, within, dim, len, eachOnce, isArrangement, order, answer, sameNumbers, trailer, distance, planRefusal, unpackRefusal}
 
 pub data Case : Type 0 where
   -- d, l and scalars; start order, bytes and answer row; last rows
@@ -84,7 +84,7 @@ cases =
     ∷ []
 
 pub cases-hold : AllHold cases
-unfolding tabulate joined same count ones odds all numberOf bitAt byteOf bytesFor packBits bitsLength addRows doubleRow bump rowsFrom startMatrix pairsFrom additions step orderFrom stepOrder matrixAfter orderAfter startOrder stepBits matrixIn orderIn lastMatrix endOrder answerRow scalarBit xor dealt deal picked passed rearrange orderToGo encodedStart encodedBits encodeWith houseOrder encode difference operations entryOf block blockIn entriesIn signedByte entryBytes traceBytes doublings additionCount stepRegisters registersAfter modulus sumOf combination timesSigned signedSum plainRule differenceAdd differenceRule startFrom startRegisters plainRegisters differenceRegisters answerRegister flatten mark trailerSize bodyLength trailerByte dIn answerIn lIn distanceIn markIn bodyPlace bodyIn planIn twoBytes fourBytes fileOf _then_ unless within dim len eachOnce isArrangement order answer sameBytes trailer distance planRefusal unpackRefusal
+unfolding tabulate joined same count ones odds all numberOf bitAt byteOf bytesFor packBits bitsLength addRows doubleRow bump rowsFrom startMatrix pairsFrom additions step orderFrom stepOrder matrixAfter orderAfter startOrder stepBits matrixIn orderIn lastMatrix endOrder answerRow scalarBit xor dealt deal picked passed rearrange orderToGo encodedStart encodedBits encodeWith houseOrder encode difference operations entryOf block blockIn entriesIn signedByte entryBytes traceBytes doublings additionCount stepRegisters registersAfter modulus sumOf combination timesSigned signedSum plainRule differenceAdd differenceRule startFrom startRegisters plainRegisters differenceRegisters answerRegister flatten mark trailerSize bodyLength trailerByte dIn answerIn lIn distanceIn markIn bodyPlace bodyIn planIn twoBytes fourBytes fileOf _then_ unless within dim len eachOnce isArrangement order answer sameNumbers trailer distance planRefusal unpackRefusal
 cases-hold = (
   (refl, refl, refl),
   (

@@ -136,16 +136,16 @@ unfoldable pub element : ℕ → List ℕ → ℕ
 element zero es = 0
 element (suc m) es = unless (all (λ e. ltb e (suc m)) es) ELEMENT
 
--- Two lists of bytes are the same.
-unfoldable pub sameBytes : List ℕ → List ℕ → Bool
-sameBytes [] [] = true
-sameBytes [] (b ∷ bs) = false
-sameBytes (a ∷ rest) [] = false
-sameBytes (a ∷ rest) (b ∷ bs) = eqb a b && sameBytes rest bs
+-- Two lists of numbers are the same.
+unfoldable pub sameNumbers : List ℕ → List ℕ → Bool
+sameNumbers [] [] = true
+sameNumbers [] (b ∷ bs) = false
+sameNumbers (a ∷ rest) [] = false
+sameNumbers (a ∷ rest) (b ∷ bs) = eqb a b && sameNumbers rest bs
 
 -- 9 TRAILER: plan file shorter than 12 bytes, wrong mark ..
 unfoldable pub trailer : List ℕ → ℕ
-trailer file = unless (leb trailerSize (length file) && sameBytes (markIn file) mark) TRAILER
+trailer file = unless (leb trailerSize (length file) && sameNumbers (markIn file) mark) TRAILER
 
 -- .. or a back distance that isn't the body's, or that is more than the bytes before the trailer.
 unfoldable pub distance : List ℕ → ℕ

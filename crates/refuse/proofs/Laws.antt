@@ -12,9 +12,10 @@ use lib.ListN.{length, getD, drop, drop-of-length-le}
 use lib.Seq.{drop-cons}
 use native.Mathlib.Numerals.{add-one}
 use Rattle.ladder.specs.Lists.{all, same, count}
+use Rattle.ladder.specs.Numbers.{bitsLength, startLength}
 use Rattle.ladder.specs.Plan.{Plan}
-use Rattle.ladder.specs.Refusals.{_then_, unless, within, dim, len, order, answer, planRefusal, eachOnce, isArrangement}
-use Rattle.refuse.specs.Inner.{inRange, sized}
+use Rattle.ladder.specs.Refusals.{_then_, unless, within, dim, len, order, answer, planRefusal, planShape, shape, eachOnce, isArrangement}
+use Rattle.refuse.specs.Inner.{inRange, sized, planRead, planLent, lentRefusal}
 
 -- ---- a range
 
@@ -215,3 +216,25 @@ pub plan-late : (p : Plan) (shapes early : ℕ) → early ≡ dim (p .d) then (l
     → order (p .d) (p .start) then answer (p .d) (p .answer) ≡ planRefusal p shapes
 plan-late p shapes early e z =
     sym (plan-parts p shapes ∙ then-zero _ _ (sym e ∙ z))
+
+-- A loose plan, its bits measured by a length that is 0 out of range.
+pub lent-is : (p : Plan) (third : ℕ)
+    → planRefusal p ((unless (eqb (length (p .start)) (p .d)) 3 then unless (eqb (length (p .bits)) (sized (p .d) (p .l) (bitsLength (p .d) (p .l)))) 3) then third)
+    ≡ lentRefusal p third
+unfolding lentRefusal planShape shape startLength
+lent-is p third =
+    plan-same p _ _
+      (λ e. ap (λ n. (unless (eqb (length (p .start)) (p .d)) 3 then unless (eqb (length (p .bits)) n) 3) then third) (sized-yes (p .d) (p .l) (bitsLength (p .d) (p .l)) e))
+
+-- The third buffer, measured by a length that is 0 out of range.
+pub lent-third : (p : Plan) (have n : ℕ)
+    → lentRefusal p (unless (eqb have (sized (p .d) (p .l) n)) 3) ≡ lentRefusal p (unless (eqb have n) 3)
+unfolding lentRefusal
+lent-third p have n =
+    plan-same p _ _ (λ e. ap (λ m. planShape p then unless (eqb have m) 3) (sized-yes (p .d) (p .l) n e))
+
+-- The refusal of a plan that is read does not look at its bits.
+pub read-lent : (d l : ℕ) (start bits : List ℕ) (answer shapes : ℕ)
+    → planRefusal (planRead d l start answer) shapes ≡ planRefusal (planLent d l start bits answer) shapes
+unfolding planRefusal
+read-lent d l start bits answer shapes = refl

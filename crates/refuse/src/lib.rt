@@ -14,6 +14,7 @@ pub use table::answer;
 pub use table::dim;
 pub use table::first;
 pub use table::len;
+pub use table::lent_plan;
 pub use table::order;
 pub use table::plan;
 pub use table::shape;

@@ -1,11 +1,12 @@
 // A function for each number of the table, and the first refusal that applies.
+use crate::lengths::bits_length;
 use crate::orders::arrangement;
 use crate::ranges::within;
 ghost use Prim.Native.Nat.{_^_};
 ghost use mathlib.Core.Path.{_≡_};
 ghost use lib.Dec.{eqb, ltb};
 ghost use Rattle.ladder.specs.Refusals.{_then_, unless, within, dim, len, order, answer, planRefusal};
-ghost use Rattle.refuse.specs.Inner.{planRead};
+ghost use Rattle.refuse.specs.Inner.{planRead, planLent, lentRefusal};
 
 pub const OK: u64 = 0;
 
@@ -82,4 +83,12 @@ pub fn plan(d: u64, l: u64, start: &[u8], row: u64, shapes: u64) -> u64
         return early;
     }
     first(order(d, start), answer(d, row))
+}
+
+// The refusal of a loose plan, lent as a start order and bits; `third` is the shape of the call's third buffer.
+pub fn lent_plan(d: u64, l: u64, start: &[u8], bits: &[u8], row: u64, third: u64) -> u64
+    ensures { λ r. ⌜ r ≡ lentRefusal (planLent d l (now (start .entry)) (now (bits .entry)) row) third ⌝ }
+{
+    let own = first(shape(start.len(), d), shape(bits.len(), bits_length(d, l)));
+    plan(d, l, start, row, first(own, third))
 }

@@ -1,0 +1,159 @@
+-- What decode leaves is the answer row of the last matrix: the walk's row is that row, for every plan that is not refused.
+-- Assumes nothing.
+use Prim.Native.Nat.{ℕ, pred, _-_, _*_, _^_}
+use mathlib.Core.Path.{_≡_, refl, sym, ap, ap₂, subst, _∙_}
+use mathlib.Core.Bool.{Bool, true, false, cond}
+use mathlib.Core.List.{List, map}
+use native.Mathlib.Numerals.{sub-one}
+use native.Mathlib.Omega.{arith}
+use lib.Dec.{eqb, ltb}
+use lib.ListN.{length, getD}
+use Rattle.ladder.specs.Lists.{tabulate, all}
+use Rattle.ladder.specs.Matrix.{startSigns, orderAfter}
+use Rattle.ladder.specs.Numbers.{numbersOf, scalarWords, scalarsLength, valuesLength, valueWords, wordsOfAll}
+use Rattle.ladder.specs.Plan.{Plan, startOrder, stepBits, orderIn, endOrder, answerRow, valuesIn}
+use Rattle.ladder.specs.Refusals.{_then_, unless, SCALAR, shape, scalar, scalarsIn, sameNumbers, decodeRefusal, checkRefusal}
+use Rattle.ladder.specs.Walk.{Walk, walkOf, orderOf}
+use Rattle.ladder.specs.Inner.Decoding.{walked, walkedEntry}
+use Rattle.ladder.proofs.Lists.{tabulate-same, tabulate-getD}
+use Rattle.ladder.proofs.Tests.{then-first, then-next, refusing-no, refusing-yes}
+use Rattle.ladder.proofs.Refusals.{Accepted, shape-none}
+use Rattle.ladder.proofs.Operations.{PlanOk, lent-none}
+use Rattle.ladder.proofs.Walk.{order-of-walk}
+use Rattle.ladder.proofs.Demand2.{answer-wide, answer-by-walk, decode-words}
+use Rattle.walk.specs.Inner.Ready.{started}
+use Rattle.walk.specs.Inner.ReadBits.{bitsAt}
+use Rattle.walk.proofs.PlanWalk.{ready-start}
+use Rattle.walk.proofs.Starting.{started-is}
+use Rattle.refuse.specs.Inner.{sized, lentRefusal}
+use Rattle.refuse.proofs.Laws.{lent-third}
+use Rattle.decode.specs.Promise.{DecodePromise, CheckPromise}
+use Rattle.decode.specs.Inner.{AtStart, walkedRow, rowSame, Checkable}
+
+-- ---- the refusal
+
+pub decode-refusal-is : (p : Plan) (values : List ℕ)
+    → lentRefusal p (unless (eqb (length values) (sized (p .d) (p .l) (valuesLength (p .d) (p .l)))) 3) ≡ decodeRefusal p values
+unfolding decodeRefusal shape lentRefusal
+decode-refusal-is p values = lent-third p (length values) (valuesLength (p .d) (p .l))
+
+-- ---- the walk from a plan's start
+
+abbrev startOf : Plan → Walk
+startOf p = walkOf (p .d) (startOrder p) (startSigns (p .d))
+
+module _ (p : Plan) (ok : Accepted p) where
+  start-is : started (p .d) (p .start) ≡ startOf p
+  start-is = started-is (p .d) (p .start) (startOrder p) (ok .columns)
+
+  order-is : orderOf (startOf p) ≡ startOrder p
+  order-is = order-of-walk (p .d) (startOrder p) (startSigns (p .d)) (ok .start .long)
+
+  -- The walk's row is the answer row.
+  row-is : walkedRow (startOf p) (p .l) (p .bits) (pred (p .answer)) ≡ answerRow p
+  unfolding walkedRow walkOf bitsAt stepBits endOrder orderIn
+  row-is =
+      ap
+        (λ S. tabulate (p .d)
+          (λ j. walkedEntry (walked (p .d) S (stepBits p) (p .l) j) (pred (p .answer)) (orderAfter S (stepBits p) (p .l)) j))
+        order-is
+      ∙ tabulate-same (p .d) _ (λ j. getD (answerRow p) j 0) (λ j h. sym (answer-by-walk p ok j h))
+      ∙ ap (λ n. tabulate n (λ j. getD (answerRow p) j 0)) (sym (answer-wide p ok))
+      ∙ tabulate-getD (answerRow p) 0
+
+pub row-decoded : (p : Plan) → Accepted p → (w : Walk) → w ≡ started (p .d) (p .start)
+    → wordsOfAll (valueWords (p .l)) (walkedRow w (p .l) (p .bits) (p .answer - 1)) ≡ valuesIn p
+unfolding valuesIn
+row-decoded p ok w e =
+    ap (wordsOfAll (valueWords (p .l)))
+      (ap₂ (λ v i. walkedRow v (p .l) (p .bits) i) (e ∙ start-is p ok) (sub-one (p .answer)) ∙ row-is p ok)
+
+at-plan : (p : Plan) (values : List ℕ) → PlanOk p → length values ≡ valuesLength (p .d) (p .l) → AtStart (startOf p) (p .l) (p .bits) values
+unfolding walkOf valuesLength
+at-plan p values ok long = record {
+    ready = ready-start p (ok .plan);
+    start = ap (λ S. walkOf (p .d) S (startSigns (p .d))) (sym (order-is p (ok .plan)));
+    lLow = ok .plan .lLow;
+    lHigh = ok .plan .lHigh;
+    bits = ok .bits;
+    words = long }
+
+-- A plan that is not refused can be walked from its start.
+pub at-start : (p : Plan) (values : List ℕ) → PlanOk p → length values ≡ valuesLength (p .d) (p .l) → (w : Walk) → w ≡ started (p .d) (p .start)
+    → AtStart w (p .l) (p .bits) values
+at-start p values ok long w e =
+    subst (λ v. AtStart v (p .l) (p .bits) values) (sym (e ∙ start-is p (ok .plan))) (at-plan p values ok long)
+
+pub started-d : (d : ℕ) (start : List ℕ) (w : Walk) → w ≡ started d start → w .d ≡ d
+unfolding started
+started-d d start w e = ap (λ v. v .d) e
+
+-- ---- the promise
+
+pub decode-refused : (p : Plan) (values : List ℕ) (r : ℕ) → r ≡ decodeRefusal p values → (r ≡ 0 → ⊥) → DecodePromise p values r values
+decode-refused p values r e n = record { refusal-is = e; values-are = sym (refusing-yes r values (valuesIn p) n) }
+
+pub decode-accepted : (p : Plan) (values after : List ℕ) → 0 ≡ decodeRefusal p values → after ≡ valuesIn p → DecodePromise p values 0 after
+decode-accepted p values after e f = record { refusal-is = e; values-are = f ∙ sym (refusing-no 0 values (valuesIn p) refl) }
+
+-- ---- check
+
+-- What is refused before the scalars are looked at.
+pub early : Plan → List ℕ → ℕ
+early p scalars = lentRefusal p (shape scalars (scalarsLength (p .d) (p .l)))
+
+pub early-is : (p : Plan) (scalars : List ℕ)
+    → lentRefusal p (unless (eqb (length scalars) (sized (p .d) (p .l) (scalarsLength (p .d) (p .l)))) 3) ≡ early p scalars
+unfolding early shape
+early-is p scalars = lent-third p (length scalars) (scalarsLength (p .d) (p .l))
+
+check-parts : (p : Plan) (scalars : List ℕ) → checkRefusal p scalars ≡ early p scalars then scalar (p .l) (scalarsIn (p .d) (p .l) scalars)
+unfolding checkRefusal early lentRefusal
+check-parts p scalars = refl
+
+-- Nothing is refused before: the plan is accepted, and the scalars have their length.
+pub early-none : (p : Plan) (scalars : List ℕ) → early p scalars ≡ 0 → PlanOk p × (length scalars ≡ scalarsLength (p .d) (p .l))
+unfolding early lentRefusal
+early-none p scalars e = lent-none p (shape-none scalars (scalarsLength (p .d) (p .l))) .0 e
+
+-- The row can be compared with the scalars.
+pub checkable : (p : Plan) (scalars : List ℕ) → PlanOk p → length scalars ≡ scalarsLength (p .d) (p .l) → (w : Walk) → w ≡ started (p .d) (p .start)
+    → Checkable w (p .l) (p .bits) (p .answer - 1) scalars
+unfolding scalarsLength valuesLength
+checkable p scalars ok long w e =
+    let same = started-d (p .d) (p .start) w e in
+    record {
+      inside = omega (arith, same, ok .plan .answerHigh);
+      begun = λ values h. at-start p values ok (h ∙ ap (λ n. n * valueWords (p .l)) same) w e;
+      long = long ∙ ap (λ n. n * scalarWords (p .l)) (sym same) }
+
+pub check-refused : (p : Plan) (scalars : List ℕ) (r : ℕ) → r ≡ early p scalars → (r ≡ 0 → ⊥)
+    → CheckPromise p scalars (record { refusal = r; yes = false })
+check-refused p scalars r e n =
+    let same : r ≡ checkRefusal p scalars =
+          e ∙ sym (check-parts p scalars ∙ then-first (early p scalars) _ (λ z. n (e ∙ z))) in
+    record { refusal-is = same; yes-is = sym (refusing-yes r false _ n) }
+
+pub check-too-large : (p : Plan) (scalars : List ℕ) → early p scalars ≡ 0
+    → all (λ k. ltb k (2 ^ p .l)) (scalarsIn (p .d) (p .l) scalars) ≡ false
+    → CheckPromise p scalars (record { refusal = 4; yes = false })
+unfolding scalar unless
+check-too-large p scalars z f = record {
+    refusal-is =
+      sym (check-parts p scalars ∙ then-next (early p scalars) _ z ∙ ap (λ t. cond t 0 SCALAR) f);
+    yes-is = sym (refusing-yes 4 false _ (λ q. absurd (omega arith))) }
+
+pub check-accepted : (p : Plan) (scalars : List ℕ) (w : Walk) (said : Bool) → early p scalars ≡ 0
+    → all (λ k. ltb k (2 ^ p .l)) (scalarsIn (p .d) (p .l) scalars) ≡ true → w ≡ started (p .d) (p .start)
+    → said ≡ rowSame w (p .l) (p .bits) (p .answer - 1) scalars → CheckPromise p scalars (record { refusal = 0; yes = said })
+unfolding scalar unless rowSame scalarsIn
+check-accepted p scalars w said z f e y =
+    let ok = early-none p scalars z .0 .plan in
+    record {
+      refusal-is = sym (check-parts p scalars ∙ then-next (early p scalars) _ z ∙ ap (λ t. cond t 0 SCALAR) f);
+      yes-is =
+        y
+        ∙ ap₂ (λ n v. sameNumbers (numbersOf n (valueWords (p .l)) v) (numbersOf n (scalarWords (p .l)) scalars))
+          (started-d (p .d) (p .start) w e) (row-decoded p ok w e)
+        ∙ ap (λ v. sameNumbers v (numbersOf (p .d) (scalarWords (p .l)) scalars)) (decode-words p ok)
+        ∙ sym (refusing-no 0 false _ refl) }
