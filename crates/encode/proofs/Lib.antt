@@ -7,3 +7,8 @@ pub mod Dealt
 pub mod Parting
 pub mod Written
 pub mod Backward
+pub mod Judged
+pub mod Kept
+-- What follows from the promise alone.
+pub mod Unique
+pub mod Promised

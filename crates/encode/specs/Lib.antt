@@ -1,2 +1,4 @@
--- What the encoder's inner contracts cite. A reader need not believe it: the public promise cites ladder's definitions alone.
+-- What the call promises, against ladder's definitions: to be believed.
+pub mod Promise
+-- Not to be believed: what only inner contracts need.
 pub mod Inner

@@ -10,6 +10,8 @@ pub use lengths::scalars_length;
 pub use lengths::trace_length;
 pub use lengths::values_length;
 pub use orders::arrangement;
+pub use table::OK;
+pub use table::SCALAR;
 pub use table::answer;
 pub use table::dim;
 pub use table::first;

@@ -1,0 +1,78 @@
+-- The promise is kept on refusal and on accepted input. Rests on what an input that is not refused is (`encode-none`).
+-- Assumes nothing.
+use Prim.Native.Nat.{ℕ, suc, _+_, _≤_}
+use mathlib.Core.Path.{_≡_, sym, _∙_}
+use mathlib.Core.List.{List, map}
+use native.Mathlib.Numerals.{add-one}
+use native.Mathlib.Omega.{arith}
+use lib.ListN.{length}
+use Rattle.ladder.specs.Lists.{joined, odds}
+use Rattle.ladder.specs.Numbers.{scalarWords, numbersOf, scalarsLength, startLength, bitsLength, packBits}
+use Rattle.ladder.specs.Matrix.{Arrangement}
+use Rattle.ladder.specs.Encoding.{encodedStart, encodedBits, encodeWith, houseOrder, encode}
+use Rattle.ladder.specs.Refusals.{scalarsIn, encodeRefusal}
+use Rattle.ladder.proofs.Lists.{odds-le}
+use Rattle.ladder.proofs.Tests.{refusing-yes, refusing-no}
+use Rattle.ladder.proofs.Numbers.{length-numbersOf}
+use Rattle.ladder.proofs.HouseOrder.{house-arrangement}
+use Rattle.ladder.proofs.Operations.{encode-none}
+use Rattle.encode.specs.Inner.Scalars.{Fitting}
+use Rattle.encode.specs.Promise.{EncodePromise}
+
+-- What the core asks of an input.
+pub record Ready (d l : ℕ) (scalars start bits : List ℕ) : Type 0 where
+  pub fitting : Fitting d l scalars
+  pub startLong : length start ≡ d
+  pub bitsLong : length bits ≡ bitsLength d l
+
+module _ (d l : ℕ) (scalars start bits : List ℕ) (n : ℕ) (judged : n ≡ encodeRefusal d l scalars start bits) where
+  -- An input that is not refused has it.
+  pub ready : n ≡ 0 → Ready d l scalars start bits
+  unfolding scalarsLength startLength scalarsIn
+  ready none =
+      let ok = encode-none d l scalars start bits .0 (sym judged ∙ none) in
+      record {
+        fitting = record {
+          shaped = record {
+            dLow = ok .dimension .0;
+            dHigh = ok .dimension .1;
+            lLow = ok .steps .0;
+            lHigh = ok .steps .1;
+            long = ok .scalarsLong;
+          };
+          below = ok .fit;
+        };
+        startLong = ok .startLong;
+        bitsLong = ok .bitsLong;
+      }
+
+  -- On refusal: row 0, and both outputs as they came.
+  pub kept-refused : (n ≡ 0 → ⊥) → EncodePromise d l scalars start bits (record { refusal = n; row = 0 }) start bits
+  kept-refused ne = record {
+    answered = rw (sym judged, refusing-yes n 0 (encode d l (scalarsIn d l scalars) .answer) ne);
+    startWritten = rw (sym judged) (sym (refusing-yes n start _ ne));
+    bitsWritten = rw (sym judged) (sym (refusing-yes n bits _ ne));
+  }
+
+  -- Else what was worked out, E being the house order, is the plan of the scalars.
+  pub kept-accepted : n ≡ 0 → (E startLeft bitsLeft : List ℕ) (odd : ℕ) → E ≡ houseOrder d (numbersOf d (scalarWords l) scalars)
+      → startLeft ≡ map suc (encodedStart l (numbersOf d (scalarWords l) scalars) E)
+      → bitsLeft ≡ packBits (joined l (encodedBits l (numbersOf d (scalarWords l) scalars) E))
+      → odd ≡ odds (numbersOf d (scalarWords l) scalars)
+      → EncodePromise d l scalars start bits (record { refusal = n; row = odd + 1 }) startLeft bitsLeft
+  unfolding encode encodeWith scalarsIn
+  kept-accepted none E startLeft bitsLeft odd house s b o = record {
+    answered = rw (sym judged, refusing-no n 0 (encode d l (scalarsIn d l scalars) .answer) none, add-one odd, o);
+    startWritten = rw (sym judged, refusing-no n start (encode d l (scalarsIn d l scalars) .start) none) (s ∙ rw house);
+    bitsWritten = rw (sym judged, refusing-no n bits (encode d l (scalarsIn d l scalars) .bits) none) (b ∙ rw house);
+  }
+
+-- The house order of d scalars is an arrangement.
+pub house-arranged : (d l : ℕ) (scalars E : List ℕ) → E ≡ houseOrder d (numbersOf d (scalarWords l) scalars) → Arrangement d E
+house-arranged d l scalars E e = rw e (house-arrangement d _ (length-numbersOf d (scalarWords l) scalars))
+
+-- Of d scalars at most d are odd.
+pub few-odd : {d l : ℕ} {scalars start bits : List ℕ} → Ready d l scalars start bits → (odd : ℕ) → odd ≡ odds (numbersOf d (scalarWords l) scalars)
+    → odd ≤ 8
+few-odd {d} {l} {scalars} ok odd e =
+    omega (arith, odds-le (numbersOf d (scalarWords l) scalars), length-numbersOf d (scalarWords l) scalars, ok .fitting .shaped .dHigh)

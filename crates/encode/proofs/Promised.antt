@@ -1,0 +1,135 @@
+-- What follows from encode's promise alone, for crates above. Rests on the theorems about encoding (Demand2, Lengths), on what an input
+-- that is not refused is (`encode-none`), and on the promise fixing its answers (`encode-unique`).
+-- Assumes nothing.
+use Prim.Native.Nat.{ℕ, _*_, _^_, _<_}
+use mathlib.Core.Path.{_≡_, refl, sym, ap, subst, _∙_}
+use mathlib.Core.Logic.{_↔_}
+use mathlib.Core.List.{List, [], _∷_}
+use native.Mathlib.Omega.{arith}
+use lib.ListN.{length, getD}
+use Rattle.ladder.specs.Lists.{tabulate, joined, odds, all}
+use Rattle.ladder.specs.Numbers.{numberOf, numbersOf, byteOf, bytesFor, packBits, scalarWords, scalarsLength, startLength, bitsLength}
+use Rattle.ladder.specs.Plan.{Plan, answerRow}
+use Rattle.ladder.specs.Encoding.{scalarBit, xor, dealt, deal, picked, passed, rearrange, orderToGo, encodedStart, encodedBits, encodeWith, houseOrder, encode}
+use Rattle.ladder.specs.Refusals.{_then_, unless, refusing, within, dim, len, shape, scalar, planRefusal, planShape, scalarsIn, encodeRefusal}
+use Rattle.ladder.proofs.Tests.{refusing-no, refusing-yes}
+use Rattle.ladder.proofs.Numbers.{length-numbersOf, numbersOf-below}
+use Rattle.ladder.proofs.HouseOrder.{house-arrangement}
+use Rattle.ladder.proofs.Refusals.{Accepted, accepted}
+use Rattle.ladder.proofs.Operations.{EncodeOk, encode-none}
+use Rattle.ladder.proofs.Demand2.{decode-encode}
+use Rattle.ladder.proofs.Lengths.{encoded-not-refused}
+use Rattle.encode.specs.declared.call.Encoded.{Encoded}
+use Rattle.encode.specs.Promise.{EncodePromise}
+use Rattle.encode.proofs.Unique.{encode-unique}
+
+-- ---- scalars in lent words
+
+-- There are d of them ..
+pub scalars-length : (d l : ℕ) (scalars : List ℕ) → length (scalarsIn d l scalars) ≡ d
+unfolding scalarsIn
+scalars-length d l scalars = length-numbersOf d (scalarWords l) scalars
+
+-- .. and those of k words are below 2^(64k).
+pub scalars-below : (d l : ℕ) (scalars : List ℕ) → length scalars ≡ scalarsLength d l → ((i : ℕ) → getD scalars i 0 < 2 ^ 64)
+    → (j : ℕ) → getD (scalarsIn d l scalars) j 0 < 2 ^ (64 * scalarWords l)
+unfolding scalarsIn scalarsLength
+scalars-below d l scalars = numbersOf-below d (scalarWords l) scalars
+
+-- ---- refused or not
+
+-- What a call answered and left, as a plan.
+abbrev pub written : ℕ → ℕ → Encoded → List ℕ → List ℕ → Plan
+written d l r start bits = record { d = d; l = l; start = start; bits = bits; answer = r .row }
+
+module _ {d l : ℕ} {scalars start bits : List ℕ} {r : Encoded} {startLeft bitsLeft : List ℕ}
+    (promise : EncodePromise d l scalars start bits r startLeft bitsLeft) where
+  -- The refusal that is answered is the first that applies.
+  pub encode-refusal : r .refusal ≡ encodeRefusal d l scalars start bits
+  encode-refusal = ap (λ a. a .refusal) (promise .answered)
+
+  -- It is 0 exactly where the input is what encode asks.
+  pub encode-accepts : r .refusal ≡ 0 ↔ EncodeOk d l scalars start bits
+  encode-accepts = subst (λ n. n ≡ 0 ↔ EncodeOk d l scalars start bits) (sym encode-refusal) (encode-none d l scalars start bits)
+
+  -- On refusal the row is 0, and both outputs are as they came.
+  pub encode-refused : (r .refusal ≡ 0 → ⊥) → (r .row ≡ 0) × (startLeft ≡ start) × (bitsLeft ≡ bits)
+  encode-refused ne =
+      let some : encodeRefusal d l scalars start bits ≡ 0 → ⊥ = λ e. ne (encode-refusal ∙ e) in (
+        ap (λ a. a .row) (promise .answered) ∙ refusing-yes _ 0 _ some,
+        promise .startWritten ∙ refusing-yes _ start _ some,
+        promise .bitsWritten ∙ refusing-yes _ bits _ some,
+      )
+
+  module _ (ok : EncodeOk d l scalars start bits) where
+    none : encodeRefusal d l scalars start bits ≡ 0
+    none = encode-none d l scalars start bits .1 ok
+
+    -- On accepted input the refusal is 0 ..
+    pub encode-accepted : r .refusal ≡ 0
+    encode-accepted = encode-refusal ∙ none
+
+    -- .. and what is written is the plan of the scalars.
+    pub encode-writes : written d l r startLeft bitsLeft ≡ encode d l (scalarsIn d l scalars)
+    unfolding encode encodeWith
+    encode-writes =
+        let row = ap (λ a. a .row) (promise .answered) ∙ refusing-no _ 0 (encode d l (scalarsIn d l scalars) .answer) none in
+        let order = promise .startWritten ∙ refusing-no _ start (encode d l (scalarsIn d l scalars) .start) none in
+        let bytes = promise .bitsWritten ∙ refusing-no _ bits (encode d l (scalarsIn d l scalars) .bits) none in
+        rw (row, order, bytes)
+
+    -- No call refuses it ..
+    pub encode-not-refused : planRefusal (written d l r startLeft bitsLeft) (planShape (written d l r startLeft bitsLeft)) ≡ 0
+    unfolding encode
+    encode-not-refused =
+        let wide = scalars-length d l scalars in
+        rw encode-writes
+        (encoded-not-refused l (scalarsIn d l scalars) (house-arrangement d (scalarsIn d l scalars) wide) wide
+        (ok .dimension .0) (ok .dimension .1) (ok .steps .0) (ok .steps .1))
+
+    pub encode-plan : Accepted (written d l r startLeft bitsLeft)
+    encode-plan = accepted _ _ encode-not-refused
+
+    -- .. and its answer row is the scalars.
+    pub encode-decodes : answerRow (written d l r startLeft bitsLeft) ≡ scalarsIn d l scalars
+    encode-decodes = rw encode-writes (decode-encode d l (scalarsIn d l scalars) (scalars-length d l scalars) (ok .fit))
+
+-- ---- nothing is constant
+
+-- d 1, l 1: 0 gives 00 and row 1, 1 gives 80 and row 2. d 2, l 2: 2, 1 give start order 1 2, and 3, 3 give 2 1.
+given :
+    EncodePromise 1 1 (0 ∷ []) (0 ∷ []) (0 ∷ []) (record { refusal = 0; row = 1 }) (1 ∷ []) (0x00 ∷ [])
+    × EncodePromise 1 1 (1 ∷ []) (0 ∷ []) (0 ∷ []) (record { refusal = 0; row = 2 }) (1 ∷ []) (0x80 ∷ [])
+    × EncodePromise 2 2 (2 ∷ 1 ∷ []) (0 ∷ 0 ∷ []) (0 ∷ []) (record { refusal = 0; row = 2 }) (1 ∷ 2 ∷ []) (0xb0 ∷ [])
+    × EncodePromise 2 2 (3 ∷ 3 ∷ []) (0 ∷ 0 ∷ []) (0 ∷ []) (record { refusal = 0; row = 3 }) (2 ∷ 1 ∷ []) (0xc0 ∷ [])
+unfolding tabulate joined odds all numberOf numbersOf byteOf bytesFor packBits scalarWords scalarsLength startLength bitsLength scalarBit xor dealt deal picked passed rearrange orderToGo encodedStart encodedBits encodeWith houseOrder encode _then_ unless refusing within dim len shape scalar scalarsIn encodeRefusal
+given = (
+  record { answered = refl; startWritten = refl; bitsWritten = refl },
+  record { answered = refl; startWritten = refl; bitsWritten = refl },
+  record { answered = refl; startWritten = refl; bitsWritten = refl },
+  record { answered = refl; startWritten = refl; bitsWritten = refl },
+)
+
+-- No one start order meets the promise for 2, 1 and for 3, 3 ..
+pub no-constant-start : {r r' : Encoded} {S bits bits' : List ℕ} → EncodePromise 2 2 (2 ∷ 1 ∷ []) (0 ∷ 0 ∷ []) (0 ∷ []) r S bits
+    → EncodePromise 2 2 (3 ∷ 3 ∷ []) (0 ∷ 0 ∷ []) (0 ∷ []) r' S bits' → ⊥
+no-constant-start p q =
+    let a = encode-unique p (given .2) .1 in
+    let b = encode-unique q (given .3) .1 in
+    let z : _≡_ {A = ℕ} 1 2 = cc in
+    omega arith
+
+-- .. no one list of bits for 0 and for 1 ..
+pub no-constant-bits : {r r' : Encoded} {start start' B : List ℕ} → EncodePromise 1 1 (0 ∷ []) (0 ∷ []) (0 ∷ []) r start B
+    → EncodePromise 1 1 (1 ∷ []) (0 ∷ []) (0 ∷ []) r' start' B → ⊥
+no-constant-bits p q =
+    let a = encode-unique p (given .0) .2 in
+    let b = encode-unique q (given .1) .2 in
+    let z : _≡_ {A = ℕ} 0x00 0x80 = cc in
+    omega arith
+
+-- .. and no one row.
+pub no-constant-row : {r r' : Encoded} {start start' bits bits' : List ℕ} → EncodePromise 1 1 (0 ∷ []) (0 ∷ []) (0 ∷ []) r start bits
+    → EncodePromise 1 1 (1 ∷ []) (0 ∷ []) (0 ∷ []) r' start' bits' → r .row ≡ r' .row → ⊥
+no-constant-row p q e =
+    omega (arith, ap (λ a. a .row) (encode-unique p (given .0) .0), ap (λ a. a .row) (encode-unique q (given .1) .0))
