@@ -54,9 +54,9 @@ module _ (p : Plan) (ok : Accepted p) where
   unfolding walkedRow walkOf bitsAt stepBits endOrder orderIn
   row-is =
       ap
-        (λ S. tabulate (p .d)
-          (λ j. walkedEntry (walked (p .d) S (stepBits p) (p .l) j) (pred (p .answer)) (orderAfter S (stepBits p) (p .l)) j))
-        order-is
+      (λ S. tabulate (p .d)
+      (λ j. walkedEntry (walked (p .d) S (stepBits p) (p .l) j) (pred (p .answer)) (orderAfter S (stepBits p) (p .l)) j))
+      order-is
       ∙ tabulate-same (p .d) _ (λ j. getD (answerRow p) j 0) (λ j h. sym (answer-by-walk p ok j h))
       ∙ ap (λ n. tabulate n (λ j. getD (answerRow p) j 0)) (sym (answer-wide p ok))
       ∙ tabulate-getD (answerRow p) 0
@@ -66,17 +66,18 @@ pub row-decoded : (p : Plan) → Accepted p → (w : Walk) → w ≡ started (p 
 unfolding valuesIn
 row-decoded p ok w e =
     ap (wordsOfAll (valueWords (p .l)))
-      (ap₂ (λ v i. walkedRow v (p .l) (p .bits) i) (e ∙ start-is p ok) (sub-one (p .answer)) ∙ row-is p ok)
+    (ap₂ (λ v i. walkedRow v (p .l) (p .bits) i) (e ∙ start-is p ok) (sub-one (p .answer)) ∙ row-is p ok)
 
 at-plan : (p : Plan) (values : List ℕ) → PlanOk p → length values ≡ valuesLength (p .d) (p .l) → AtStart (startOf p) (p .l) (p .bits) values
 unfolding walkOf valuesLength
 at-plan p values ok long = record {
-    ready = ready-start p (ok .plan);
-    start = ap (λ S. walkOf (p .d) S (startSigns (p .d))) (sym (order-is p (ok .plan)));
-    lLow = ok .plan .lLow;
-    lHigh = ok .plan .lHigh;
-    bits = ok .bits;
-    words = long }
+  ready = ready-start p (ok .plan);
+  start = ap (λ S. walkOf (p .d) S (startSigns (p .d))) (sym (order-is p (ok .plan)));
+  lLow = ok .plan .lLow;
+  lHigh = ok .plan .lHigh;
+  bits = ok .bits;
+  words = long;
+}
 
 -- A plan that is not refused can be walked from its start.
 pub at-start : (p : Plan) (values : List ℕ) → PlanOk p → length values ≡ valuesLength (p .d) (p .l) → (w : Walk) → w ≡ started (p .d) (p .start)
@@ -125,13 +126,14 @@ checkable p scalars ok long w e =
     record {
       inside = omega (arith, same, ok .plan .answerHigh);
       begun = λ values h. at-start p values ok (h ∙ ap (λ n. n * valueWords (p .l)) same) w e;
-      long = long ∙ ap (λ n. n * scalarWords (p .l)) (sym same) }
+      long = long ∙ ap (λ n. n * scalarWords (p .l)) (sym same);
+    }
 
 pub check-refused : (p : Plan) (scalars : List ℕ) (r : ℕ) → r ≡ early p scalars → (r ≡ 0 → ⊥)
     → CheckPromise p scalars (record { refusal = r; yes = false })
 check-refused p scalars r e n =
     let same : r ≡ checkRefusal p scalars =
-          e ∙ sym (check-parts p scalars ∙ then-first (early p scalars) _ (λ z. n (e ∙ z))) in
+    e ∙ sym (check-parts p scalars ∙ then-first (early p scalars) _ (λ z. n (e ∙ z))) in
     record { refusal-is = same; yes-is = sym (refusing-yes r false _ n) }
 
 pub check-too-large : (p : Plan) (scalars : List ℕ) → early p scalars ≡ 0
@@ -139,9 +141,10 @@ pub check-too-large : (p : Plan) (scalars : List ℕ) → early p scalars ≡ 0
     → CheckPromise p scalars (record { refusal = 4; yes = false })
 unfolding scalar unless
 check-too-large p scalars z f = record {
-    refusal-is =
+  refusal-is =
       sym (check-parts p scalars ∙ then-next (early p scalars) _ z ∙ ap (λ t. cond t 0 SCALAR) f);
-    yes-is = sym (refusing-yes 4 false _ (λ q. absurd (omega arith))) }
+  yes-is = sym (refusing-yes 4 false _ (λ q. absurd (omega arith)));
+}
 
 pub check-accepted : (p : Plan) (scalars : List ℕ) (w : Walk) (said : Bool) → early p scalars ≡ 0
     → all (λ k. ltb k (2 ^ p .l)) (scalarsIn (p .d) (p .l) scalars) ≡ true → w ≡ started (p .d) (p .start)
@@ -152,8 +155,9 @@ check-accepted p scalars w said z f e y =
     record {
       refusal-is = sym (check-parts p scalars ∙ then-next (early p scalars) _ z ∙ ap (λ t. cond t 0 SCALAR) f);
       yes-is =
-        y
-        ∙ ap₂ (λ n v. sameNumbers (numbersOf n (valueWords (p .l)) v) (numbersOf n (scalarWords (p .l)) scalars))
+          y
+          ∙ ap₂ (λ n v. sameNumbers (numbersOf n (valueWords (p .l)) v) (numbersOf n (scalarWords (p .l)) scalars))
           (started-d (p .d) (p .start) w e) (row-decoded p ok w e)
-        ∙ ap (λ v. sameNumbers v (numbersOf (p .d) (scalarWords (p .l)) scalars)) (decode-words p ok)
-        ∙ sym (refusing-no 0 false _ refl) }
+          ∙ ap (λ v. sameNumbers v (numbersOf (p .d) (scalarWords (p .l)) scalars)) (decode-words p ok)
+          ∙ sym (refusing-no 0 false _ refl);
+    }

@@ -85,8 +85,13 @@ number-at d k j ws h =
 pub part-lengths : (j k n : ℕ) (values scalars : List ℕ) → n ≤ k → j * k + k ≤ length values → j * n + n ≤ length scalars
     → length (take (j * n + n - j * n) (drop (j * n) scalars)) ≤ length (take (j * k + k - j * k) (drop (j * k) values))
 part-lengths j k n values scalars h a b =
-    omega (arith, length-take (j * n + n - j * n) (drop (j * n) scalars), length-drop (j * n) scalars,
-      length-take (j * k + k - j * k) (drop (j * k) values), length-drop (j * k) values)
+    omega (
+      arith,
+      length-take (j * n + n - j * n) (drop (j * n) scalars),
+      length-drop (j * n) scalars,
+      length-take (j * k + k - j * k) (drop (j * k) values),
+      length-drop (j * k) values,
+    )
 
 -- Numbers that agree at every place are the same lists; numbers that differ at one are not.
 pub numbers-agree : (d k n : ℕ) (values scalars : List ℕ)
@@ -94,8 +99,8 @@ pub numbers-agree : (d k n : ℕ) (values scalars : List ℕ)
     → true ≡ sameNumbers (numbersOf d k values) (numbersOf d n scalars)
 numbers-agree d k n values scalars e =
     lists-same (numbersOf d k values) (numbersOf d n scalars)
-      (ext-getD 0 (numbersOf d k values) (numbersOf d n scalars) (length-numbersOf d k values ∙ sym (length-numbersOf d n scalars))
-        (λ i h. e i (omega (arith, length-numbersOf d k values))))
+    (ext-getD 0 (numbersOf d k values) (numbersOf d n scalars) (length-numbersOf d k values ∙ sym (length-numbersOf d n scalars))
+    (λ i h. e i (omega (arith, length-numbersOf d k values))))
 
 pub numbers-apart : (d k n : ℕ) (values scalars : List ℕ) (j : ℕ)
     → (getD (numbersOf d k values) j 0 ≡ getD (numbersOf d n scalars) j 0 → ⊥)

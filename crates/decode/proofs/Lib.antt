@@ -5,3 +5,5 @@ pub mod Raising
 pub mod Answering
 pub mod Decoded
 pub mod Equality
+pub mod Unique
+pub mod Promised

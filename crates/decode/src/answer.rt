@@ -25,7 +25,14 @@ pub fn answer_values(start: Walk, bits: &[u8], l: usize, row: usize, values: &mu
 }
 
 // Whether that row is the scalars; its words are left in `values`.
-fn row_is_in(start: Walk, bits: &[u8], l: usize, row: usize, scalars: &[u64], values: &mut [u64]) -> bool
+fn row_is_in(
+    start: Walk,
+    bits: &[u8],
+    l: usize,
+    row: usize,
+    scalars: &[u64],
+    values: &mut [u64],
+) -> bool
     requires { ⌜ Checkable (walkState start) l (now bits) row (now scalars) × (length (now values) ≡ start .d * valueWords l) ⌝ }
     ensures { λ r. ⌜ r ≡ rowSame (walkState start) l (now (bits .entry)) row (now (scalars .entry)) ⌝ }
 {

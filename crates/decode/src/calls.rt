@@ -1,14 +1,14 @@
 // The public calls: decode and check.
+use crate::answer::answer_values;
+use crate::answer::row_is;
 use encode::scalars::scalars_below;
+use refuse::OK;
+use refuse::SCALAR;
 use refuse::lent_plan;
 use refuse::scalars_length;
 use refuse::shape;
 use refuse::values_length;
 use walk::start::start_walk;
-
-use crate::answer::answer_values;
-use crate::answer::row_is;
-
 ghost use Rattle.decode.specs.Promise.{CheckPromise, DecodePromise};
 ghost use Rattle.refuse.specs.Inner.{planLent};
 
@@ -23,13 +23,20 @@ pub struct Checked {
 pub fn decode(d: u64, l: u64, start: &[u8], bits: &[u8], row: u64, values: &mut [u64]) -> u64
     ensures { λ r. ⌜ DecodePromise (planLent d l (now (start .entry)) (now (bits .entry)) row) (now (values .entry)) r (now (values .exit)) ⌝ }
 {
-    let refusal = lent_plan(d, l, start, bits, row, shape(values.len(), values_length(d, l)));
-    if refusal != 0 {
+    let refusal = lent_plan(
+        d,
+        l,
+        start,
+        bits,
+        row,
+        shape(values.len(), values_length(d, l)),
+    );
+    if refusal != OK {
         return refusal;
     }
     let w = start_walk(d, start);
     answer_values(w, bits, l as usize, (row - 1) as usize, values);
-    0
+    OK
 }
 
 // Says whether the answer row of the plan's last matrix is the d scalars, lent in ceil(l / 64) words each. Refusals: 1, 2, 3, 5, 6, 4, the
@@ -37,20 +44,27 @@ pub fn decode(d: u64, l: u64, start: &[u8], bits: &[u8], row: u64, values: &mut 
 pub fn check(d: u64, l: u64, start: &[u8], bits: &[u8], row: u64, scalars: &[u64]) -> Checked
     ensures { λ r. ⌜ CheckPromise (planLent d l (now (start .entry)) (now (bits .entry)) row) (now (scalars .entry)) r ⌝ }
 {
-    let refusal = lent_plan(d, l, start, bits, row, shape(scalars.len(), scalars_length(d, l)));
-    if refusal != 0 {
+    let early = lent_plan(
+        d,
+        l,
+        start,
+        bits,
+        row,
+        shape(scalars.len(), scalars_length(d, l)),
+    );
+    if early != OK {
         return Checked {
-            refusal,
+            refusal: early,
             yes: false,
         };
     }
     if !scalars_below(d as usize, l as usize, scalars) {
         return Checked {
-            refusal: 4,
+            refusal: SCALAR,
             yes: false,
         };
     }
     let w = start_walk(d, start);
     let yes = row_is(w, bits, l as usize, (row - 1) as usize, scalars);
-    Checked { refusal: 0, yes }
+    Checked { refusal: OK, yes }
 }

@@ -8,6 +8,6 @@ mod rows;
 mod same;
 mod values;
 
+pub use calls::Checked;
 pub use calls::check;
 pub use calls::decode;
-pub use calls::Checked;

@@ -224,7 +224,7 @@ pub lent-is : (p : Plan) (third : ℕ)
 unfolding lentRefusal planShape shape startLength
 lent-is p third =
     plan-same p _ _
-      (λ e. ap (λ n. (unless (eqb (length (p .start)) (p .d)) 3 then unless (eqb (length (p .bits)) n) 3) then third) (sized-yes (p .d) (p .l) (bitsLength (p .d) (p .l)) e))
+    (λ e. ap (λ n. (unless (eqb (length (p .start)) (p .d)) 3 then unless (eqb (length (p .bits)) n) 3) then third) (sized-yes (p .d) (p .l) (bitsLength (p .d) (p .l)) e))
 
 -- The third buffer, measured by a length that is 0 out of range.
 pub lent-third : (p : Plan) (have n : ℕ)

@@ -42,7 +42,7 @@ returns c =
     let b = c .before .before .before .before .before .before .before .before .before in
     c .same-values .ensures
     ∙ ap (λ v. sameNumbers (numbersOf (b .args .start .d) (valueWords (b .args .l)) v) (numbersOf (b .args .start .d) (scalarWords (b .args .l)) (b .args .scalars .now)))
-      (c .before .before .before .before .answer-values .ensures)
+    (c .before .before .before .before .answer-values .ensures)
 
 pub row-is-in-spec : {M : Type 1} → statement M
 row-is-in-spec =

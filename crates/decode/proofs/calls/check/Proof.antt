@@ -35,8 +35,8 @@ lent-plan-requires c κs = search needs
 judged : (c : tie.After-lent-plan)
     → c .before .shape .result
     ≡ unless (eqb (length (c .before .before .before .before .before .before .args .scalars .now))
-      (sized (c .before .before .before .before .before .before .args .d) (c .before .before .before .before .before .before .args .l)
-        (scalarsLength (c .before .before .before .before .before .before .args .d) (c .before .before .before .before .before .before .args .l)))) 3
+    (sized (c .before .before .before .before .before .before .args .d) (c .before .before .before .before .before .before .args .l)
+    (scalarsLength (c .before .before .before .before .before .before .args .d) (c .before .before .before .before .before .before .args .l)))) 3
 judged c = cc
 
 returns : tie.Need-returns
@@ -59,7 +59,8 @@ scalars-below-requires c κs =
       dHigh = ok .0 .plan .dHigh;
       lLow = ok .0 .plan .lLow;
       lHigh = ok .0 .plan .lHigh;
-      long = ok .1 }
+      long = ok .1;
+    }
 
 -- src/calls.rt:48:9
 returns-2 : tie.Need-returns-2
@@ -106,7 +107,7 @@ returns-3 c =
     let p = planLent (a .d) (a .l) (a .start .now) (a .bits .now) (a .row) in
     let e = c .before .before .before .before .before .lent-plan .ensures ∙ ap (lentRefusal p) (judged (c .before .before .before .before .before)) ∙ early-is p (a .scalars .now) in
     check-accepted p (a .scalars .now) _ _ (sym e ∙ c .before .before .before .before .if1 .left)
-      (sym (c .before .before .before .scalars-below .ensures) ∙ not-false _ (c .before .before .if2 .left)) (c .before .start-walk .ensures) (c .row-is .ensures)
+    (sym (c .before .before .before .scalars-below .ensures) ∙ not-false _ (c .before .before .if2 .left)) (c .before .start-walk .ensures) (c .row-is .ensures)
 
 pub check-spec : {M : Type 1} → statement M
 check-spec =

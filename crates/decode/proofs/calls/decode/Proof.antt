@@ -31,8 +31,8 @@ lent-plan-requires c κs = search needs
 judged : (c : tie.After-lent-plan)
     → c .before .shape .result
     ≡ unless (eqb (length (c .before .before .before .before .before .before .args .values .now))
-      (sized (c .before .before .before .before .before .before .args .d) (c .before .before .before .before .before .before .args .l)
-        (valuesLength (c .before .before .before .before .before .before .args .d) (c .before .before .before .before .before .before .args .l)))) 3
+    (sized (c .before .before .before .before .before .before .args .d) (c .before .before .before .before .before .before .args .l)
+    (valuesLength (c .before .before .before .before .before .before .args .d) (c .before .before .before .before .before .before .args .l)))) 3
 judged c = cc
 
 returns : tie.Need-returns
@@ -78,7 +78,7 @@ returns-2 c =
     let z = c .before .before .before .before .before .if1 .left in
     let ok = decode-none p (a .values .now) .0 (sym e ∙ z) in
     decode-accepted p (a .values .now) _ (sym z ∙ e)
-      (c .before .before .answer-values .ensures ∙ row-decoded p (ok .plan .plan) _ (c .before .before .before .before .start-walk .ensures))
+    (c .before .before .answer-values .ensures ∙ row-decoded p (ok .plan .plan) _ (c .before .before .before .before .start-walk .ensures))
 
 pub decode-spec : {M : Type 1} → statement M
 decode-spec =

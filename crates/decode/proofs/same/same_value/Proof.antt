@@ -35,7 +35,7 @@ returns c =
     let b = c .before .before .before .before in
     let a = b .before .before .before .args in
     values-differ (a .value .now) (a .scalar .now) (λ i. b .before .before .shared-slice-known .given i .fits)
-      (λ i. b .before .shared-slice-known2 .given i .fits) (b .loop .i) (λ e. c .if1 .taken (e ∙ sym (c .before .word .ensures)))
+    (λ i. b .before .shared-slice-known2 .given i .fits) (b .loop .i) (λ e. c .if1 .taken (e ∙ sym (c .before .word .ensures)))
 
 add-i : tie.Need-add-i Inv-loop μ-loop
 add-i c = omega arith

@@ -76,8 +76,8 @@ same-value-requires : tie.Need-same-value-requires Inv-loop μ-loop
 same-value-requires c κs =
     let s = c .before .before .before .before .before .before in
     part-lengths (c .before .before .before .loop .j) (s .args .k) (s .args .n) (s .args .values .now) (s .args .scalars .now) (s .pre .1 .1 .0)
-      (value-inside (c .before .before .before .before .before .before .args .d) (c .before .before .before .before .before .before .args .k) (c .before .before .before .loop .j) (length (c .before .before .before .before .before .before .args .values .now)) (omega arith) (c .before .before .before .before .before .before .pre .1 .1 .1 .0))
-      (value-inside (c .before .before .before .before .before .before .args .d) (c .before .before .before .before .before .before .args .n) (c .before .before .before .loop .j) (length (c .before .before .before .before .before .before .args .scalars .now)) (omega arith) (c .before .before .before .before .before .before .pre .1 .1 .1 .1))
+    (value-inside (c .before .before .before .before .before .before .args .d) (c .before .before .before .before .before .before .args .k) (c .before .before .before .loop .j) (length (c .before .before .before .before .before .before .args .values .now)) (omega arith) (c .before .before .before .before .before .before .pre .1 .1 .1 .0))
+    (value-inside (c .before .before .before .before .before .before .args .d) (c .before .before .before .before .before .before .args .n) (c .before .before .before .loop .j) (length (c .before .before .before .before .before .before .args .scalars .now)) (omega arith) (c .before .before .before .before .before .before .pre .1 .1 .1 .1))
 
 returns : tie.Need-returns Inv-loop μ-loop
 returns c =
@@ -85,7 +85,7 @@ returns c =
     let j = c .before .before .before .before .before .loop .j in
     let e = ap₂ eqb (number-at (s .args .d) (s .args .k) j (s .args .values .now) (omega arith)) (number-at (s .args .d) (s .args .n) j (s .args .scalars .now) (omega arith)) in
     numbers-apart (s .args .d) (s .args .k) (s .args .n) (s .args .values .now) (s .args .scalars .now) j
-      (eqb-false _ _ (sym e ∙ sym (c .before .same-value .ensures) ∙ not-true _ (c .if1 .taken)))
+    (eqb-false _ _ (sym e ∙ sym (c .before .same-value .ensures) ∙ not-true _ (c .if1 .taken)))
 
 add-j : tie.Need-add-j Inv-loop μ-loop
 add-j c = omega arith

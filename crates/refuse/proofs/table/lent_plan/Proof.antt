@@ -34,8 +34,8 @@ returns c =
     let a = c .before .before .before .before .before .before .before .before .args in
     let p = planLent (a .d) (a .l) (a .start .now) (a .bits .now) (a .row) in
     let shapes : c .before .first2 .result
-            ≡ (unless (eqb (length (a .start .now)) (a .d)) 3
-            then unless (eqb (length (a .bits .now)) (sized (a .d) (a .l) (bitsLength (a .d) (a .l)))) 3) then a .third = cc in
+    ≡ (unless (eqb (length (a .start .now)) (a .d)) 3
+    then unless (eqb (length (a .bits .now)) (sized (a .d) (a .l) (bitsLength (a .d) (a .l)))) 3) then a .third = cc in
     c .plan .ensures ∙ read-lent (a .d) (a .l) (a .start .now) (a .bits .now) (a .row) (c .before .first2 .result)
     ∙ ap (planRefusal p) shapes ∙ lent-is p (a .third)
 
