@@ -14,3 +14,6 @@ pub mod Tracing
 pub mod WalkEntries
 pub mod PlanWalk
 pub mod Starting
+pub mod Judging
+pub mod Unique
+pub mod Promised

@@ -1,0 +1,11 @@
+// The plan library: every public call, and nothing else. Each takes any input and finishes; it finds bad input itself and answers the
+// refusal number of the table, 0 where nothing is refused.
+pub use decode::Checked;
+pub use decode::check;
+pub use decode::decode;
+pub use encode::Encoded;
+pub use encode::encode;
+pub use walk::state::Walk;
+pub use walk::step::Stepped;
+pub use walk::trace::TraceAnswer;
+pub use walk::trace::trace;

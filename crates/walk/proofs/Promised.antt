@@ -1,0 +1,118 @@
+-- What follows from the promises of step and trace alone, for a crate above to cite.
+-- Assumes nothing.
+use Prim.Native.Nat.{ℕ, zero, suc, _-_, _*_, _^_, _<_}
+use mathlib.Core.Path.{_≡_, sym, ap, subst, _∙_}
+use mathlib.Core.List.{List}
+use native.Mathlib.Omega.{arith}
+use lib.IntN.{pos}
+use lib.ListN.{replicate, List·getD-append}
+use Rattle.ladder.specs.Matrix.{startSigns, orderAfter, signsAfter}
+use Rattle.ladder.specs.Plan.{Plan, startOrder, stepBits, orderIn, signsIn}
+use Rattle.ladder.specs.Trace.{entriesIn, traceBytes}
+use Rattle.ladder.specs.Walk.{walkOf, stepWalk}
+use Rattle.ladder.specs.Refusals.{walkOrder, stepRefusal, traceRefusal}
+use Rattle.ladder.proofs.Bits.{length-stepBits, stepBits-below}
+use Rattle.ladder.proofs.Walk.{numberOfBits, numberOfBits-below, walkAfter, walk-after, length-signsAfter}
+use Rattle.ladder.proofs.WalkSteps.{walk-in-order}
+use Rattle.ladder.proofs.Tests.{refusing-no, refusing-yes}
+use Rattle.ladder.proofs.Refusals.{Accepted, walkOrder-none}
+use Rattle.ladder.proofs.Operations.{StepOk, step-none, TraceOk, trace-none}
+use Rattle.ladder.proofs.Trace.{trace-doublings, trace-additions}
+use Rattle.ladder.proofs.Demand3.{state-in}
+use Rattle.walk.specs.declared.state.Walk.{Walk}
+use Rattle.walk.specs.declared.step.Stepped.{Stepped}
+use Rattle.walk.specs.declared.trace.TraceAnswer.{TraceAnswer}
+use Rattle.walk.specs.WalkState.{walkState}
+use Rattle.walk.specs.Promise.{StepPromise, TracePromise}
+use Rattle.walk.proofs.PlanWalk.{ready-in}
+use Rattle.walk.proofs.Unique.{same-walk}
+
+-- ---- step
+
+module _ (w : Walk) (bits : ℕ) (r : Stepped) (promised : StepPromise w bits r) where
+  -- Where step's questions are answered, the refusal is 0 and the state is the next one ..
+  pub step-accepted : StepOk (walkState w) bits → (r .refusal ≡ 0) × (walkState (r .walk) ≡ stepWalk (walkState w) bits)
+  step-accepted ok =
+      let none : r .refusal ≡ 0 = promised .refusal ∙ step-none (walkState w) bits .1 ok in
+      (none, promised .walk ∙ refusing-no _ _ _ none)
+
+  -- .. and on refusal it is the state that was handed in.
+  pub step-refused : (stepRefusal (walkState w) bits ≡ 0 → ⊥) → r .walk ≡ w
+  step-refused some =
+      same-walk (r .walk) w (promised .walk ∙ refusing-yes _ _ _ (λ e. some (sym (promised .refusal) ∙ e)))
+
+-- ---- a plan's walk
+
+module _ (p : Plan) (ok : Accepted p) where
+  -- The walk state before step s (the rules' step s+1) is in order ..
+  walk-ok-in : (s : ℕ) → walkOrder (walkOf (p .d) (orderIn p s) (signsIn p s)) ≡ 0
+  unfolding walkOf signsIn
+  walk-ok-in s =
+      let many = length-signsAfter (p .d) (startOrder p) (stepBits p) s in
+      walk-in-order (signsIn p s) (ok .dHigh) (state-in p ok s .order) many
+      (λ j h. let b : j < p .d = omega arith in
+      rw (List·getD-append (signsIn p s) (replicate (8 - p .d) (pos 0)) (pos 0) j h) at (ready-in p ok s .signs j b))
+
+  -- .. its bits are a number of d bits ..
+  bits-in : (s : ℕ) → numberOfBits (stepBits p s) < 2 ^ p .d
+  bits-in s = subst (λ n. numberOfBits (stepBits p s) < 2 ^ n) (length-stepBits p s) (numberOfBits-below (stepBits p s) (stepBits-below p s))
+
+  -- .. and the step leads to the state before the next.
+  step-in : (s : ℕ)
+      → stepWalk (walkOf (p .d) (orderIn p s) (signsIn p s)) (numberOfBits (stepBits p s)) ≡ walkOf (p .d) (orderIn p (suc s)) (signsIn p (suc s))
+  unfolding orderIn signsIn walkAfter
+  step-in s =
+      let after = walk-after (p .d) (startOrder p) (stepBits p) (ok .start .long) (length-stepBits p) (stepBits-below p) in
+      sym (ap (λ w. stepWalk w (numberOfBits (stepBits p s))) (after s)) ∙ after (suc s)
+
+  -- A walk that stands before step s of an accepted plan, stepped with that step's bits, stands before the next.
+  pub steps-along : (s : ℕ) (w : Walk) (r : Stepped) → walkState w ≡ walkOf (p .d) (orderIn p s) (signsIn p s)
+      → StepPromise w (numberOfBits (stepBits p s)) r
+      → (r .refusal ≡ 0) × (walkState (r .walk) ≡ walkOf (p .d) (orderIn p (suc s)) (signsIn p (suc s)))
+  unfolding walkOf
+  steps-along s w r e promised =
+      let asked : StepOk (walkOf (p .d) (orderIn p s) (signsIn p s)) (numberOfBits (stepBits p s)) = record {
+        dimension = (ok .dLow, ok .dHigh);
+        walk = walkOrder-none _ .0 (walk-ok-in s);
+        number = bits-in s;
+      } in
+      let done = step-accepted w (numberOfBits (stepBits p s)) r promised (subst (λ v. StepOk v (numberOfBits (stepBits p s))) (sym e) asked) in
+      (done .0, done .1 ∙ ap (λ v. stepWalk v (numberOfBits (stepBits p s))) e ∙ step-in s)
+
+  -- So the walk of the start order and signs +1, stepped with the plan's bits, holds the order and the signs before each step, and no
+  -- step refuses. Walk s is what stands before step s, and r s what that step answers.
+  pub walks-along : (w : ℕ → Walk) (r : ℕ → Stepped) → walkState (w 0) ≡ walkOf (p .d) (startOrder p) (startSigns (p .d))
+      → ((s : ℕ) → StepPromise (w s) (numberOfBits (stepBits p s)) (r s)) → ((s : ℕ) → w (suc s) ≡ r s .walk)
+      → (n : ℕ) → (walkState (w n) ≡ walkOf (p .d) (orderIn p n) (signsIn p n)) × (r n .refusal ≡ 0)
+  unfolding orderIn signsIn orderAfter signsAfter
+  walks-along w r begins promised next n = (stands n, steps-along n (w n) (r n) (stands n) (promised n) .0)
+    where
+      stands : (s : ℕ) → walkState (w s) ≡ walkOf (p .d) (orderIn p s) (signsIn p s)
+      stands zero = begins
+      stands (suc s) = ap walkState (next s) ∙ steps-along s (w s) (r s) (stands s) (promised s) .1
+
+-- ---- trace
+
+module _ (p : Plan) (before : List ℕ) (r : TraceAnswer) (after : List ℕ) (promised : TracePromise p before r after) where
+  -- Where trace's questions are answered, the refusal is 0, and every entry is written ..
+  pub trace-accepted : TraceOk p before → (r .refusal ≡ 0) × (after ≡ traceBytes (entriesIn p))
+  trace-accepted ok =
+      let none : r .refusal ≡ 0 = promised .refusal ∙ trace-none p before .1 ok in
+      (none, promised .out ∙ refusing-no _ _ _ none)
+
+  -- .. l doublings and l * d additions ..
+  pub trace-counts : TraceOk p before → (r .doublings ≡ p .l) × (r .additions ≡ p .l * p .d)
+  trace-counts ok =
+      let none = trace-accepted ok .0 in (
+        promised .doublings ∙ refusing-no _ _ _ none ∙ trace-doublings p,
+        promised .additions ∙ refusing-no _ _ _ none ∙ trace-additions p,
+      )
+
+  -- .. and on refusal nothing is written or counted.
+  pub trace-refused : (traceRefusal p before ≡ 0 → ⊥) → (after ≡ before) × (r .doublings ≡ 0) × (r .additions ≡ 0)
+  trace-refused some =
+      let refused : r .refusal ≡ 0 → ⊥ = λ e. some (sym (promised .refusal) ∙ e) in (
+        promised .out ∙ refusing-yes _ _ _ refused,
+        promised .doublings ∙ refusing-yes _ _ _ refused,
+        promised .additions ∙ refusing-yes _ _ _ refused,
+      )

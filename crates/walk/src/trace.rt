@@ -1,0 +1,45 @@
+// The public call `trace`.
+use crate::start::start_walk;
+use crate::steps::trace_steps;
+ghost use mathlib.Core.Path.{_≡_};
+ghost use Rattle.ladder.specs.Refusals.{traceRefusal};
+ghost use Rattle.walk.specs.Promise.{TracePromise};
+
+// What a trace answers: the refusal, and the doublings and the additions written, 0 where it refuses.
+pub struct TraceAnswer {
+    pub refusal: u64,
+    pub doublings: u64,
+    pub additions: u64,
+}
+
+// The refusal of a trace: 1, 2, 3, 5, 6, where 3 covers the start order, the bits and the trace buffer.
+fn trace_refusal(d: u64, l: u64, start: &[u8], bits: &[u8], row: u64, out: &[u8]) -> u64
+    ensures { λ r. ⌜ r ≡ traceRefusal (record { d = d; l = l; start = now (start .entry); bits = now (bits .entry); answer = row }) (now (out .entry)) ⌝ }
+{
+    let order = refuse::shape(start.len(), d);
+    let packed = refuse::shape(bits.len(), refuse::bits_length(d, l));
+    let room = refuse::shape(out.len(), refuse::trace_length(d, l));
+    let shapes = refuse::first(refuse::first(order, packed), room);
+    refuse::plan(d, l, start, row, shapes)
+}
+
+// The trace of a plan: for each step its doubling and its d additions, each x, y and the difference of the two rows.
+pub fn trace(d: u64, l: u64, start: &[u8], bits: &[u8], row: u64, out: &mut [u8]) -> TraceAnswer
+    ensures { λ r. ⌜ TracePromise (record { d = d; l = l; start = now (start .entry); bits = now (bits .entry); answer = row }) (now (out .entry)) r (now (out .exit)) ⌝ }
+{
+    let refusal = trace_refusal(d, l, start, bits, row, out);
+    if refusal != 0 {
+        return TraceAnswer {
+            refusal,
+            doublings: 0,
+            additions: 0,
+        };
+    }
+    let w = start_walk(d, start);
+    let written = trace_steps(w, bits, 0, l, out);
+    TraceAnswer {
+        refusal,
+        doublings: written.doublings,
+        additions: written.additions,
+    }
+}
