@@ -2,11 +2,11 @@
 -- Assumes nothing.
 use Prim.Native.Nat.{ℕ, zero, suc, pred, _+_, _-_, _*_, _/_, _%_, _^_, _≤_, _<_}
 use mathlib.Core.Path.{_≡_, refl, sym, ap, ap₂, subst, _∙_}
-use mathlib.Core.List.{List, [], _∷_, _++_, map}
+use mathlib.Core.List.{List, [], _∷_, map}
 use native.Mathlib.Nat.{pow-suc, mod-add-mod, mul-le-mul}
 use native.Mathlib.Decide.{decLe}
 use native.Mathlib.Omega.{arith}
-use lib.IntN.{ℤ, pos}
+use lib.IntN.{pos}
 use lib.ListN.{length, getD, take, drop, replicate, length-replicate, take-append-drop, List·getD-append, List·getD-eq-default}
 use lib.Seq.{take-take, getD-take}
 use Rattle.ladder.specs.Lists.{tabulate, count}
@@ -20,7 +20,7 @@ use Rattle.ladder.proofs.Tests.{count-suc}
 use Rattle.ladder.proofs.Walk.{order-of-walk, length-orderAfter, length-signsAfter}
 use Rattle.walk.specs.Inner.Ready.{Ready, Columns, Units}
 use Rattle.walk.specs.Inner.ReadBits.{bitsAt}
-use Rattle.decode.specs.Inner.{AtStart, Lowered, Raisable, raised, walkedRow, Checkable}
+use Rattle.decode.specs.Inner.{Lowered, Raisable, raised, walkedRow, Checkable}
 use Rattle.decode.proofs.Lowering.{length-bitsAt}
 use Rattle.decode.proofs.Words.{digit-small}
 

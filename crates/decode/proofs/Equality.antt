@@ -2,7 +2,7 @@
 -- Assumes nothing.
 use Prim.Native.Nat.{ℕ, zero, suc, _+_, _-_, _*_, _/_, _%_, _^_, _≤_, _<_}
 use mathlib.Core.Path.{_≡_, refl, sym, ap, ap₂, subst, _∙_}
-use mathlib.Core.Bool.{Bool, true, false, _&&_}
+use mathlib.Core.Bool.{Bool, true, false}
 use mathlib.Core.List.{List, [], _∷_}
 use borrow.Author.Tests.{eq-eqb, ne-eqb}
 use native.Mathlib.Nat.{div-eq-of-lt, lt-of-lt-of-le, mul-le-mul-right, suc-mul}
@@ -12,7 +12,7 @@ use lib.Dec.{T, eqb}
 use lib.ListN.{length, getD, take, drop, length-take, length-drop, List·getD-eq-default}
 use lib.Pow.{pow-mono}
 use lib.Seq.{ext-getD}
-use Rattle.ladder.specs.Numbers.{numberOf, numbersOf, wordsOf}
+use Rattle.ladder.specs.Numbers.{numberOf, numbersOf}
 use Rattle.ladder.specs.Refusals.{sameNumbers}
 use Rattle.ladder.proofs.Numbers.{wordsOf-numberOf, numberOf-below, length-numbersOf}
 use Rattle.ladder.proofs.Lists.{getD-tabulate}

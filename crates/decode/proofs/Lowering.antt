@@ -1,18 +1,17 @@
 -- The walk through a plan, under way: the walk state after the steps taken, and each column's lower number partly in words.
 -- Assumes nothing.
 use Prim.Native.Nat.{ℕ, zero, suc, _+_, _-_, _*_, _/_, _%_, _^_, _≤_, _<_}
-use mathlib.Core.Path.{_≡_, refl, sym, ap, ap₂, subst, _∙_}
-use mathlib.Core.List.{List, [], _∷_, _++_}
+use mathlib.Core.Path.{_≡_, refl, sym, ap, subst, _∙_}
+use mathlib.Core.List.{List}
 use native.Mathlib.Nat.{zero-mod, zero-div, mul-le-mul-right, suc-mul, sub-self, mod-lt, lt-of-lt-of-le}
-use native.Mathlib.Numerals.{add-one}
 use native.Mathlib.Omega.{arith}
-use lib.IntN.{ℤ, pos}
+use lib.IntN.{pos}
 use lib.ListN.{length, getD, replicate, List·getD-append}
 use lib.Pow.{pow-pos, pow-mono}
 use Rattle.ladder.specs.Lists.{tabulate}
-use Rattle.ladder.specs.Matrix.{startSigns, stepOrder, stepSigns, orderAfter, signsAfter}
+use Rattle.ladder.specs.Matrix.{stepOrder, stepSigns, orderAfter, signsAfter}
 use Rattle.ladder.specs.Numbers.{bitsLength, bytesFor, valueWords, wordsOfAll}
-use Rattle.ladder.specs.Walk.{Walk, bitsOf, walkOf, orderOf, stepWalk}
+use Rattle.ladder.specs.Walk.{Walk, walkOf, orderOf, stepWalk}
 use Rattle.ladder.specs.Inner.Decoding.{digit, walked}
 use Rattle.ladder.proofs.Lists.{length-tabulate}
 use Rattle.ladder.proofs.Walk.{step-of-walk, length-orderAfter, length-signsAfter}

@@ -5,12 +5,11 @@ use mathlib.Core.Path.{_≡_, refl, sym, ap, ap₂, subst, subst₂, _∙_}
 use mathlib.Core.Bool.{cond}
 use borrow.Author.Tests.{eq-eqb, ne-eqb}
 use mathlib.Core.Logic.{_≢_}
-use mathlib.Core.List.{List, [], _∷_, _++_, map, flatten}
-use native.Mathlib.Nat.{mod-one, div-one, add-mul-div-left, mul-comm, mul-pos, div-add-mod', mod-lt, div-lt-iff-lt-mul, le-of-suc-le-suc, not-suc-le-zero, zero-mul, suc-mul, zero-add, add-assoc, sub-self}
-use native.Mathlib.Decide.{ℕ-discrete, decLe}
-use native.Mathlib.Numerals.{add-one}
+use mathlib.Core.List.{List, [], _∷_, _++_, flatten}
+use native.Mathlib.Nat.{mod-one, div-one, div-add-mod', mod-lt, div-lt-iff-lt-mul, le-of-suc-le-suc, not-suc-le-zero, zero-mul, suc-mul, zero-add}
+use native.Mathlib.Decide.{ℕ-discrete}
 use native.Mathlib.Omega.{arith}
-use lib.ListN.{length, getD, set, replicate, length-set, getD-replicate, List·getD-append, length-append, List·getD-eq-default}
+use lib.ListN.{length, getD, set, replicate, List·getD-append}
 use lib.Arith.{digits-div}
 use lib.Pow.{shr-shr, mod-pow-add}
 use lib.Seq.{ext-getD, getD-set-same, getD-set-other, getD-append-add}
@@ -19,7 +18,7 @@ use Rattle.ladder.specs.Numbers.{wordsOf, wordsOfAll}
 use Rattle.ladder.proofs.Lists.{length-tabulate, getD-tabulate}
 use Rattle.ladder.proofs.Numbers.{length-wordsOf, length-wordsOfAll}
 use Rattle.decode.specs.Inner.{stored, heldThen, storedThen}
-use Rattle.decode.proofs.Words.{length-stored, pow-word, word-inside}
+use Rattle.decode.proofs.Words.{length-stored, word-inside}
 
 -- ---- where a word stands
 

@@ -1,15 +1,14 @@
 -- What follows from the promises of encode, decode and check alone.
 -- Assumes nothing.
-use Prim.Native.Nat.{ℕ, _+_, _%_, _^_, _<_}
-use mathlib.Core.Path.{_≡_, refl, sym, ap, subst, _∙_}
+use Prim.Native.Nat.{ℕ, _%_, _^_, _<_}
+use mathlib.Core.Path.{_≡_, sym, ap, subst, _∙_}
 use mathlib.Core.Logic.{_≢_, _↔_}
 use mathlib.Core.Bool.{true, false}
 use mathlib.Core.List.{List, [], _∷_, _++_}
-use native.Mathlib.Omega.{arith}
-use lib.ListN.{length, getD}
+use lib.ListN.{length}
 use Rattle.ladder.specs.Numbers.{numbersOf, wordsOf, wordsOfAll, scalarWords, startLength, bitsLength, valueWords, valuesLength}
 use Rattle.ladder.specs.Plan.{Plan, answerRow, valuesIn}
-use Rattle.ladder.specs.Refusals.{refusing, scalarsIn, sameNumbers, planShape, shape}
+use Rattle.ladder.specs.Refusals.{scalarsIn, planShape, shape}
 use Rattle.ladder.proofs.Numbers.{value-words, value-words-full}
 use Rattle.ladder.proofs.Tests.{then-none, refusing-no, refusing-yes}
 use Rattle.ladder.proofs.Refusals.{shape-none, accepted-shapes}

@@ -3,7 +3,7 @@
 use Prim.Native.Nat.{ℕ, zero, suc, _+_, _*_, _%_, _^_, _≤_, _<_}
 use mathlib.Core.Path.{_≡_, refl, sym, ap, subst, _∙_}
 use mathlib.Core.List.{List, [], _∷_}
-use native.Mathlib.Nat.{le-of-suc-le-suc, not-suc-le-zero, mul-add, mul-assoc, mul-comm, mul-left-comm, mul-suc, add-mul, zero-mul, one-mul}
+use native.Mathlib.Nat.{le-of-suc-le-suc, not-suc-le-zero, mul-add, mul-left-comm, mul-suc, add-mul, zero-mul, one-mul}
 use native.Mathlib.Decide.{ℕ-discrete}
 use native.Mathlib.Numerals.{add-one}
 use native.Mathlib.Omega.{arith}

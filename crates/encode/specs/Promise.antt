@@ -3,7 +3,6 @@
 use Prim.Native.Nat.{ℕ}
 use mathlib.Core.Path.{_≡_}
 use mathlib.Core.List.{List}
-use Rattle.ladder.specs.Plan.{Plan}
 use Rattle.ladder.specs.Encoding.{encode}
 use Rattle.ladder.specs.Refusals.{refusing, scalarsIn, encodeRefusal}
 use Rattle.encode.specs.declared.call.Encoded.{Encoded}

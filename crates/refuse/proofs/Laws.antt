@@ -12,6 +12,7 @@ use lib.ListN.{length, getD, drop, drop-of-length-le}
 use lib.Seq.{drop-cons}
 use native.Mathlib.Numerals.{add-one}
 use Rattle.ladder.specs.Lists.{all, same, count}
+use Rattle.ladder.proofs.Tests.{then-first, then-next, then-assoc}
 use Rattle.ladder.specs.Numbers.{bitsLength, startLength}
 use Rattle.ladder.specs.Plan.{Plan}
 use Rattle.ladder.specs.Refusals.{_then_, unless, within, dim, len, order, answer, planRefusal, planShape, shape, eachOnce, isArrangement}
@@ -44,21 +45,6 @@ unless-yes test n e = ap (λ t. cond t 0 n) e
 pub unless-no : (test : Bool) (n : ℕ) → test ≡ false → unless test n ≡ n
 unfolding unless
 unless-no test n e = ap (λ t. cond t 0 n) e
-
-pub then-zero : (a b : ℕ) → a ≡ 0 → a then b ≡ b
-unfolding _then_
-then-zero zero b e = refl
-then-zero (suc a) b e = absurd (omega arith)
-
-pub then-some : (a b : ℕ) → (a ≡ 0 → ⊥) → a then b ≡ a
-unfolding _then_
-then-some zero b e = absurd (e refl)
-then-some (suc a) b e = refl
-
-pub then-assoc : (a b c : ℕ) → (a then b) then c ≡ a then (b then c)
-unfolding _then_
-then-assoc zero b c = refl
-then-assoc (suc a) b c = refl
 
 -- What follows a refusal counts only where it is 0.
 pub then-same : (m n k : ℕ) → (m ≡ 0 → n ≡ k) → m then n ≡ m then k
@@ -210,12 +196,12 @@ pub plan-early : (p : Plan) (shapes early : ℕ) → early ≡ dim (p .d) then (
     → early ≡ planRefusal p shapes
 plan-early p shapes early e n =
     let rest = order (p .d) (p .start) then answer (p .d) (p .answer) in
-    sym (plan-parts p shapes ∙ ap (λ k. k then rest) (sym e) ∙ then-some early rest n)
+    sym (plan-parts p shapes ∙ ap (λ k. k then rest) (sym e) ∙ then-first early rest n)
 
 pub plan-late : (p : Plan) (shapes early : ℕ) → early ≡ dim (p .d) then (len (p .l) then shapes) → early ≡ 0
     → order (p .d) (p .start) then answer (p .d) (p .answer) ≡ planRefusal p shapes
 plan-late p shapes early e z =
-    sym (plan-parts p shapes ∙ then-zero _ _ (sym e ∙ z))
+    sym (plan-parts p shapes ∙ then-next _ _ (sym e ∙ z))
 
 -- A loose plan, its bits measured by a length that is 0 out of range.
 pub lent-is : (p : Plan) (third : ℕ)

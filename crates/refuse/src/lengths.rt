@@ -1,9 +1,7 @@
 // The length of each buffer, 0 where d or l is out of range: a huge d or l must not wrap on the way to its refusal.
 use crate::ranges::within;
 ghost use mathlib.Core.Path.{_≡_};
-ghost use mathlib.Core.Bool.{_&&_};
 ghost use Rattle.ladder.specs.Numbers.{scalarsLength, valuesLength, bitsLength, traceLength};
-ghost use Rattle.ladder.specs.Refusals.{within};
 ghost use Rattle.refuse.specs.Inner.{inRange, sized};
 
 fn in_range(d: u64, l: u64) -> bool

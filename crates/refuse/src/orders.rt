@@ -1,7 +1,6 @@
 // Whether numbers are an arrangement of 1..d.
 use crate::ranges::within;
 ghost use mathlib.Core.Path.{_≡_};
-ghost use lib.Dec.{eqb};
 ghost use Rattle.ladder.specs.Lists.{all, count};
 ghost use Rattle.ladder.specs.Refusals.{within, eachOnce, isArrangement};
 

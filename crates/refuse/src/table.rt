@@ -2,9 +2,8 @@
 use crate::lengths::bits_length;
 use crate::orders::arrangement;
 use crate::ranges::within;
-ghost use Prim.Native.Nat.{_^_};
 ghost use mathlib.Core.Path.{_≡_};
-ghost use lib.Dec.{eqb, ltb};
+ghost use lib.Dec.{eqb};
 ghost use Rattle.ladder.specs.Refusals.{_then_, unless, within, dim, len, order, answer, planRefusal};
 ghost use Rattle.refuse.specs.Inner.{planRead, planLent, lentRefusal};
 

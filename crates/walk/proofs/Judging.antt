@@ -17,13 +17,13 @@ use mir.Syntax.{w8}
 use mir.Val.{SFits, toZ, ofZ}
 use mir.Facts.{toZ-ofZ}
 use Rattle.ladder.specs.Lists.{all}
-use Rattle.ladder.specs.Numbers.{startLength, bitsLength, traceLength}
+use Rattle.ladder.specs.Numbers.{traceLength}
 use Rattle.ladder.specs.Plan.{Plan}
 use Rattle.ladder.specs.Walk.{Walk}
-use Rattle.ladder.specs.Refusals.{_then_, unless, shape, isArrangement, isUnit, isZero, isEight, walkOrder, planRefusal, planShape, traceRefusal}
+use Rattle.ladder.specs.Refusals.{unless, shape, isArrangement, isUnit, isZero, isEight, walkOrder, traceRefusal}
 use Rattle.ladder.proofs.Tests.{Says, reworded, eqb-says, and-says, all-says, past-says, isUnit-says, isZero-says}
-use Rattle.refuse.specs.Inner.{planRead, sized}
-use Rattle.refuse.proofs.Laws.{sized-yes, plan-same}
+use Rattle.refuse.specs.Inner.{sized, lentRefusal}
+use Rattle.refuse.proofs.Laws.{lent-third}
 use Rattle.walk.specs.Inner.Ready.{Units}
 
 -- ---- a test and what it says
@@ -114,14 +114,10 @@ high-bits d n ne = go (decLt n (2 ^ d))
     go (yes h) = absurd (ne (div-eq-of-lt h))
     go (no h) = omega arith
 
--- ---- the buffers of a trace
+-- ---- the buffer of a trace
 
--- Lengths that are 0 where d or l is out of range judge a trace as well as the true ones.
+-- A length that is 0 where d or l is out of range judges the trace's buffer as well as the true one.
 pub trace-judged : (p : Plan) (out : List ℕ)
-    → planRefusal (planRead (p .d) (p .l) (p .start) (p .answer))
-    ((unless (eqb (length (p .start)) (p .d)) 3 then unless (eqb (length (p .bits)) (sized (p .d) (p .l) (bitsLength (p .d) (p .l)))) 3)
-    then unless (eqb (length out) (sized (p .d) (p .l) (traceLength (p .d) (p .l)))) 3)
-    ≡ traceRefusal p out
-unfolding traceRefusal planRefusal planShape shape startLength
-trace-judged p out =
-    plan-same p _ _ (λ e. rw (sized-yes (p .d) (p .l) (bitsLength (p .d) (p .l)) e, sized-yes (p .d) (p .l) (traceLength (p .d) (p .l)) e))
+    → lentRefusal p (unless (eqb (length out) (sized (p .d) (p .l) (traceLength (p .d) (p .l)))) 3) ≡ traceRefusal p out
+unfolding traceRefusal shape lentRefusal
+trace-judged p out = lent-third p (length out) (traceLength (p .d) (p .l))

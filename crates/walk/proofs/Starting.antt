@@ -1,6 +1,6 @@
 -- The start state, filled in place by place.
 -- Assumes nothing.
-use Prim.Native.Nat.{ℕ, zero, suc, pred, _+_, _-_, _≤_, _<_}
+use Prim.Native.Nat.{ℕ, suc, _+_, _-_, _≤_, _<_}
 use mathlib.Core.Path.{_≡_, refl, sym, ap, ap₂, _∙_}
 use mathlib.Core.List.{List, [], _∷_, _++_, map}
 use native.Mathlib.Numerals.{add-one}
@@ -9,7 +9,7 @@ use lib.IntN.{ℤ, pos}
 use lib.ListN.{length, getD, set, take, replicate, length-replicate, replicate-append-replicate}
 use lib.Seq.{set-at, take-suc, take-length, length-take-le, append-snoc}
 use Rattle.ladder.specs.Matrix.{startSigns}
-use Rattle.ladder.specs.Walk.{Walk, walkOf}
+use Rattle.ladder.specs.Walk.{walkOf}
 use Rattle.walk.specs.Inner.Ready.{started}
 
 -- A run of values at the front, and the rest as it was: one more.

@@ -1,5 +1,8 @@
 // The judging of a walk state, which may hold anything, and of a step's number.
 use crate::state::Walk;
+use refuse::OK;
+use refuse::ORDER;
+use refuse::SHAPE;
 ghost use Prim.Native.Nat.{_≤_};
 ghost use mathlib.Core.Path.{_≡_};
 ghost use mathlib.Core.Bool.{_&&_};
@@ -8,13 +11,6 @@ ghost use lib.ListN.{take, drop};
 ghost use Rattle.ladder.specs.Lists.{all};
 ghost use Rattle.ladder.specs.Refusals.{isUnit, isZero, walkOrder, stepShape, stepRefusal};
 ghost use Rattle.walk.specs.WalkState.{walkState};
-
-// Numbers of the table.
-const OK: u64 = 0;
-
-const SHAPE: u64 = 3;
-
-const ORDER: u64 = 5;
 
 // A sign is 1 or -1.
 fn is_unit(s: i8) -> bool

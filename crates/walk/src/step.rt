@@ -16,7 +16,7 @@ impl Walk {
         ensures { λ r. ⌜ StepPromise self bits r ⌝ }
     {
         let refusal = step_refusal(self, bits);
-        if refusal != 0 {
+        if refusal != refuse::OK {
             return Stepped {
                 refusal,
                 walk: self,

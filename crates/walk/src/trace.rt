@@ -16,11 +16,8 @@ pub struct TraceAnswer {
 fn trace_refusal(d: u64, l: u64, start: &[u8], bits: &[u8], row: u64, out: &[u8]) -> u64
     ensures { λ r. ⌜ r ≡ traceRefusal (record { d = d; l = l; start = now (start .entry); bits = now (bits .entry); answer = row }) (now (out .entry)) ⌝ }
 {
-    let order = refuse::shape(start.len(), d);
-    let packed = refuse::shape(bits.len(), refuse::bits_length(d, l));
     let room = refuse::shape(out.len(), refuse::trace_length(d, l));
-    let shapes = refuse::first(refuse::first(order, packed), room);
-    refuse::plan(d, l, start, row, shapes)
+    refuse::lent_plan(d, l, start, bits, row, room)
 }
 
 // The trace of a plan: for each step its doubling and its d additions, each x, y and the difference of the two rows.
@@ -28,7 +25,7 @@ pub fn trace(d: u64, l: u64, start: &[u8], bits: &[u8], row: u64, out: &mut [u8]
     ensures { λ r. ⌜ TracePromise (record { d = d; l = l; start = now (start .entry); bits = now (bits .entry); answer = row }) (now (out .entry)) r (now (out .exit)) ⌝ }
 {
     let refusal = trace_refusal(d, l, start, bits, row, out);
-    if refusal != 0 {
+    if refusal != refuse::OK {
         return TraceAnswer {
             refusal,
             doublings: 0,

@@ -1,4 +1,6 @@
-use mathlib.Core.Path.{_≡_, sym, ap, _∙_}
+-- `answer_values` meets its contract: the lower numbers, raised by parity, are the row that the walk yields.
+-- Assumes nothing.
+use mathlib.Core.Path.{ap, _∙_}
 use native.Mathlib.Omega.{arith}
 use Rattle.ladder.specs.Numbers.{valueWords, wordsOfAll}
 use Rattle.walk.specs.WalkState.{walkState}
@@ -6,11 +8,6 @@ use Rattle.decode.proofs.Answering.{places-inside, last-columns, raisab
 use borrow.Author.Needs.{needs}
 use Rattle.decode.proofs.answer.answer_values.Statement.{statement}
 use Rattle.decode.proofs.answer.answer_values.Tie as tie
-use Rattle.decode.proofs.answer.answer_values.Reads as reads
-use Rattle.decode.proofs.answer.answer_values.Lts as lts
-use Rattle.decode.proofs.lower.lower_values.Reads as lower-values-reads
-use Rattle.decode.proofs.rows.columns_above.Reads as columns-above-reads
-use Rattle.decode.proofs.rows.raise.Reads as raise-reads
 
 lower-values-requires : tie.Need-lower-values-requires
 lower-values-requires c κs =

@@ -1,6 +1,7 @@
-use Prim.Native.Nat.{_+_, _*_, _/_, _≤_}
-use mathlib.Core.Path.{_≡_, sym, ap, _∙_}
-use native.Mathlib.Nat.{mul-le-mul}
+-- `row_is` meets its contract: the scratch has room for the row.
+-- Assumes nothing.
+use Prim.Native.Nat.{_+_, _*_, _/_}
+use mathlib.Core.Path.{sym}
 use native.Mathlib.Omega.{arith}
 use lib.Seq.{length-take-le}
 use Rattle.ladder.specs.Numbers.{valueWords}
@@ -9,9 +10,6 @@ use Rattle.decode.proofs.Answering.{scratch-room}
 use borrow.Author.Needs.{needs}
 use Rattle.decode.proofs.answer.row_is.Statement.{statement}
 use Rattle.decode.proofs.answer.row_is.Tie as tie
-use Rattle.decode.proofs.answer.row_is.Reads as reads
-use Rattle.decode.proofs.answer.row_is.Lts as lts
-use Rattle.decode.proofs.answer.row_is_in.Reads as row-is-in-reads
 
 add-n : tie.Need-add-n
 add-n c = search needs

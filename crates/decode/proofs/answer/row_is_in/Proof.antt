@@ -1,6 +1,7 @@
-use mathlib.Core.Path.{_≡_, sym, ap, _∙_}
+-- `row_is_in` meets its contract: the row in words is compared with the scalars.
+-- Assumes nothing.
+use mathlib.Core.Path.{ap, _∙_}
 use native.Mathlib.Omega.{arith}
-use lib.ListN.{length}
 use Rattle.ladder.specs.Numbers.{numbersOf, valueWords, scalarWords}
 use Rattle.ladder.specs.Refusals.{sameNumbers}
 use Rattle.walk.specs.WalkState.{walkState}
@@ -8,10 +9,6 @@ use Rattle.decode.specs.Inner.{rowSame}
 use borrow.Author.Needs.{needs}
 use Rattle.decode.proofs.answer.row_is_in.Statement.{statement}
 use Rattle.decode.proofs.answer.row_is_in.Tie as tie
-use Rattle.decode.proofs.answer.row_is_in.Reads as reads
-use Rattle.decode.proofs.answer.row_is_in.Lts as lts
-use Rattle.decode.proofs.answer.answer_values.Reads as answer-values-reads
-use Rattle.decode.proofs.same.same_values.Reads as same-values-reads
 
 answer-values-requires : tie.Need-answer-values-requires
 unfolding walkState

@@ -1,3 +1,5 @@
+-- `check` meets its promise: the refusal is the table's, and the row that is compared is the answer row of the last matrix.
+-- Assumes nothing.
 use mathlib.Core.Path.{_≡_, sym, ap, _∙_}
 use borrow.Author.Tests.{not-true, not-false}
 use lib.Dec.{eqb}
@@ -9,28 +11,16 @@ use Rattle.decode.proofs.Decoded.{early-is, early-none, check-refused, 
 use borrow.Author.Needs.{needs}
 use Rattle.decode.proofs.calls.check.Statement.{statement}
 use Rattle.decode.proofs.calls.check.Tie as tie
-use Rattle.decode.proofs.calls.check.Reads as reads
-use Rattle.decode.proofs.calls.check.Lts as lts
-use Rattle.decode.proofs.answer.row_is.Reads as row-is-reads
-use Rattle.encode.proofs.scalars.scalars_below.Reads as scalars-below-reads
-use Rattle.refuse.proofs.scalars_length.Reads as scalars-length-reads
-use Rattle.refuse.proofs.lent_plan.Reads as lent-plan-reads
-use Rattle.refuse.proofs.shape.Reads as shape-reads
-use Rattle.walk.proofs.start.start_walk.Reads as start-walk-reads
 
--- src/calls.rt:40:74
 scalars-length-requires : tie.Need-scalars-length-requires
 scalars-length-requires c κs = search needs
 
--- src/calls.rt:40:53
 shape-requires : tie.Need-shape-requires
 shape-requires c κs = search needs
 
--- src/calls.rt:40:9
 lent-plan-requires : tie.Need-lent-plan-requires
 lent-plan-requires c κs = search needs
 
--- src/calls.rt:42:9
 -- What stands at the third buffer's shape.
 judged : (c : tie.After-lent-plan)
     → c .before .shape .result
@@ -46,7 +36,6 @@ returns c =
     let e = c .before .lent-plan .ensures ∙ ap (lentRefusal p) (judged (c .before)) ∙ early-is p (a .scalars .now) in
     check-refused p (a .scalars .now) (c .before .lent-plan .result) e (c .if1 .taken)
 
--- src/calls.rt:47:9
 scalars-below-requires : tie.Need-scalars-below-requires
 unfolding scalarsLength
 scalars-below-requires c κs =
@@ -62,7 +51,6 @@ scalars-below-requires c κs =
       long = ok .1;
     }
 
--- src/calls.rt:48:9
 returns-2 : tie.Need-returns-2
 unfolding scalarsIn
 returns-2 c =
@@ -71,7 +59,6 @@ returns-2 c =
     let e = c .before .before .before .lent-plan .ensures ∙ ap (lentRefusal p) (judged (c .before .before .before)) ∙ early-is p (a .scalars .now) in
     check-too-large p (a .scalars .now) (sym e ∙ c .before .before .if1 .left) (sym (c .before .scalars-below .ensures) ∙ not-true _ (c .if2 .taken))
 
--- src/calls.rt:53:9
 start-walk-requires : tie.Need-start-walk-requires
 unfolding startLength
 start-walk-requires c κs =
@@ -81,7 +68,6 @@ start-walk-requires c κs =
     let ok = early-none p (a .scalars .now) (sym e ∙ c .before .before .if1 .left) in
     (ok .0 .plan .dHigh, ok .0 .start)
 
--- src/calls.rt:54:44
 sub-row-is : tie.Need-sub-row-is
 sub-row-is c =
     let a = c .before .before .before .before .before .before .before .before .before .before .args in
@@ -89,7 +75,6 @@ sub-row-is c =
     let e = c .before .before .before .before .lent-plan .ensures ∙ ap (lentRefusal p) (judged (c .before .before .before .before)) ∙ early-is p (a .scalars .now) in
     early-none p (a .scalars .now) (sym e ∙ c .before .before .before .if1 .left) .0 .plan .answerLow
 
--- src/calls.rt:54:9
 row-is-requires : tie.Need-row-is-requires
 row-is-requires c κs =
     let a = c .before .before .before .before .before .before .before .before .before .before .args in
@@ -99,7 +84,6 @@ row-is-requires c κs =
     let w = c .start-walk .ensures in
     checkable p (a .scalars .now) (ok .0) (ok .1) _ w
 
--- src/calls.rt:37:1
 returns-3 : tie.Need-returns-3
 unfolding scalarsIn
 returns-3 c =

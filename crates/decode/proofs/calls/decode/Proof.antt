@@ -1,4 +1,6 @@
-use mathlib.Core.Path.{_≡_, refl, sym, ap, _∙_}
+-- `decode` meets its promise: the refusal is the table's, and the row that the walk yields is the answer row of the last matrix.
+-- Assumes nothing.
+use mathlib.Core.Path.{_≡_, sym, ap, _∙_}
 use native.Mathlib.Omega.{arith}
 use lib.Dec.{eqb}
 use lib.ListN.{length}
@@ -10,13 +12,6 @@ use Rattle.decode.proofs.Decoded.{decode-refusal-is, decode-refused, de
 use borrow.Author.Needs.{needs}
 use Rattle.decode.proofs.calls.decode.Statement.{statement}
 use Rattle.decode.proofs.calls.decode.Tie as tie
-use Rattle.decode.proofs.calls.decode.Reads as reads
-use Rattle.decode.proofs.calls.decode.Lts as lts
-use Rattle.decode.proofs.answer.answer_values.Reads as answer-values-reads
-use Rattle.refuse.proofs.values_length.Reads as values-length-reads
-use Rattle.refuse.proofs.lent_plan.Reads as lent-plan-reads
-use Rattle.refuse.proofs.shape.Reads as shape-reads
-use Rattle.walk.proofs.start.start_walk.Reads as start-walk-reads
 
 values-length-requires : tie.Need-values-length-requires
 values-length-requires c κs = search needs

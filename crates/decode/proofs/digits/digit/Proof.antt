@@ -1,14 +1,13 @@
+-- `digit` meets its contract: a sign below 0 stands for 1.
+-- Assumes nothing.
 use mathlib.Core.Path.{sym, ap, _∙_}
 use lib.IntN.{pos}
 use lib.Signed.{ltZ}
 use mir.Syntax.{w8}
 use mir.ValLaws.{toZ-ofZ}
 use Rattle.decode.proofs.Words.{digit-below, digit-from}
-use borrow.Author.Needs.{needs}
 use Rattle.decode.proofs.digits.digit.Statement.{statement}
 use Rattle.decode.proofs.digits.digit.Tie as tie
-use Rattle.decode.proofs.digits.digit.Reads as reads
-use Rattle.decode.proofs.digits.digit.Lts as lts
 
 returns : tie.Need-returns
 returns c = digit-below _ (ap (λ z. ltZ z (pos 0)) (sym (toZ-ofZ w8 _ (c .before .fits .sign))) ∙ c .if1 .taken)

@@ -1,9 +1,10 @@
-use mathlib.Core.Path.{refl, ap, _∙_}
+-- `push_digits` meets its contract: the places filled so far hold the doubled numbers and their digits.
+-- Assumes nothing.
+use mathlib.Core.Path.{refl, ap, _∙_, _≡_}
 use Rattle.walk.proofs.SmallSigns.{unit-kept}
 use native.Mathlib.Nat.{not-suc-le-zero}
 use Rattle.decode.proofs.Words.{filled-more, digit-small}
 use Prim.Native.Nat.{ℕ, _+_, _-_, _*_, _≤_, _<_}
-use mathlib.Core.Path.{_≡_}
 use lib.IntN.{pos}
 use lib.ListN.{length, getD, length-set}
 use native.Mathlib.Omega.{arith}
@@ -11,9 +12,6 @@ use Rattle.ladder.specs.Inner.Decoding.{digit}
 use borrow.Author.Needs.{needs}
 use Rattle.decode.proofs.digits.push_digits.Statement.{statement}
 use Rattle.decode.proofs.digits.push_digits.Tie as tie
-use Rattle.decode.proofs.digits.push_digits.Reads as reads
-use Rattle.decode.proofs.digits.push_digits.Lts as lts
-use Rattle.decode.proofs.digits.digit.Reads as digit-reads
 
 abbrev Inv-loop : tie.InvT-loop
 Inv-loop d held signs next₀ j₀ next j =

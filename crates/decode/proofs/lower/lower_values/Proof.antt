@@ -1,3 +1,5 @@
+-- `lower_values` meets its contract: what is held and what is stored are the digits of the signs so far.
+-- Assumes nothing.
 use Prim.Native.Nat.{_+_, _-_, _/_}
 use mathlib.Core.Path.{_≡_, sym, ap, subst, subst₂, _∙_}
 use lib.ListN.{replicate}
@@ -6,16 +8,8 @@ use Rattle.decode.specs.Inner.{stored}
 use native.Mathlib.Omega.{arith}
 use Rattle.walk.specs.WalkState.{walkState}
 use Rattle.decode.proofs.Lowering.{Lowering, bits-room, held-room, next-units, lowering-starts, lowering-next, lowering-ends}
-use borrow.Author.Needs.{needs}
 use Rattle.decode.proofs.lower.lower_values.Statement.{statement}
 use Rattle.decode.proofs.lower.lower_values.Tie as tie
-use Rattle.decode.proofs.lower.lower_values.Reads as reads
-use Rattle.decode.proofs.lower.lower_values.Lts as lts
-use Rattle.decode.proofs.digits.push_digits.Reads as push-digits-reads
-use Rattle.decode.proofs.values.store_full.Reads as store-full-reads
-use Rattle.decode.proofs.values.store_words.Reads as store-words-reads
-use Rattle.walk.proofs.advance.advance.Reads as advance-reads
-use Rattle.walk.proofs.bits.step_bits.Reads as step-bits-reads
 
 abbrev Inv-loop : tie.InvT-loop
 Inv-loop bits l values₀ d k w₀ held₀ left₀ values w held left = Lowering (walkState w₀) l bits (walkState w) held values left

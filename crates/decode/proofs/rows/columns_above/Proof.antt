@@ -1,14 +1,13 @@
+-- `columns_above` meets its contract: the counts so far are those of the places passed.
+-- Assumes nothing.
 use Prim.Native.Nat.{suc, _-_, _≤_}
 use mathlib.Core.Path.{_≡_, ap, _∙_}
 use lib.ListN.{getD, take}
 use Rattle.ladder.specs.Lists.{count}
 use native.Mathlib.Omega.{arith}
 use Rattle.decode.proofs.Raising.{Above, above-few, above-next, above-none}
-use borrow.Author.Needs.{needs}
 use Rattle.decode.proofs.rows.columns_above.Statement.{statement}
 use Rattle.decode.proofs.rows.columns_above.Tie as tie
-use Rattle.decode.proofs.rows.columns_above.Reads as reads
-use Rattle.decode.proofs.rows.columns_above.Lts as lts
 
 abbrev Inv-loop : tie.InvT-loop
 Inv-loop row order above₀ i₀ above i = (i ≤ row) × Above order above i

@@ -1,6 +1,8 @@
+-- `raise` meets its contract: the values before j are done, the others are as they came.
+-- Assumes nothing.
 use Rattle.decode.specs.Inner.{raisedOne}
 use Prim.Native.Nat.{_-_}
-use mathlib.Core.Path.{_≡_, sym, ap, ap₂, _∙_}
+use mathlib.Core.Path.{ap, _∙_}
 use lib.IntN.{pos}
 use lib.ListN.{getD}
 use native.Mathlib.Omega.{arith}
@@ -10,10 +12,6 @@ use Rattle.decode.proofs.Raising.{Raising, raising-starts, raising-room
 use borrow.Author.Needs.{needs}
 use Rattle.decode.proofs.rows.raise.Statement.{statement}
 use Rattle.decode.proofs.rows.raise.Tie as tie
-use Rattle.decode.proofs.rows.raise.Reads as reads
-use Rattle.decode.proofs.rows.raise.Lts as lts
-use Rattle.decode.proofs.digits.digit.Reads as digit-reads
-use Rattle.decode.proofs.rows.raise_one.Reads as raise-one-reads
 
 abbrev Inv-loop : tie.InvT-loop
 Inv-loop values₀ d k signs above j₀ values j = Raising d k signs above values₀ values j

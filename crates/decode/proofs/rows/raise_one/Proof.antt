@@ -1,11 +1,9 @@
+-- `raise_one` meets its contract: the part that is lent is the value.
+-- Assumes nothing.
 use Rattle.decode.proofs.Raising.{not-raised, part-room, part-raised}
-use native.Mathlib.Omega.{arith}
 use borrow.Author.Needs.{needs}
 use Rattle.decode.proofs.rows.raise_one.Statement.{statement}
 use Rattle.decode.proofs.rows.raise_one.Tie as tie
-use Rattle.decode.proofs.rows.raise_one.Reads as reads
-use Rattle.decode.proofs.rows.raise_one.Lts as lts
-use Rattle.decode.proofs.values.increment.Reads as increment-reads
 
 returns : tie.Need-returns
 returns c =

@@ -1,3 +1,5 @@
+-- `same_value` meets its contract: all words passed agree.
+-- Assumes nothing.
 use Prim.Native.Nat.{ℕ, _-_, _≤_, _<_}
 use mathlib.Core.Path.{_≡_, sym, _∙_}
 use native.Mathlib.Nat.{not-suc-le-zero}
@@ -8,9 +10,6 @@ use Rattle.decode.proofs.Equality.{values-same, values-differ}
 use borrow.Author.Needs.{needs}
 use Rattle.decode.proofs.same.same_value.Statement.{statement}
 use Rattle.decode.proofs.same.same_value.Tie as tie
-use Rattle.decode.proofs.same.same_value.Reads as reads
-use Rattle.decode.proofs.same.same_value.Lts as lts
-use Rattle.decode.proofs.same.word.Reads as word-reads
 
 abbrev Inv-loop : tie.InvT-loop
 Inv-loop value scalar i₀ i = (i ≤ length value) × ((k : ℕ) → k < i → getD value k 0 ≡ getD scalar k 0)

@@ -1,4 +1,6 @@
-use Prim.Native.Nat.{ℕ, _+_, _-_, _*_, _≤_, _<_}
+-- `same_values` meets its contract: all values passed agree.
+-- Assumes nothing.
+use Prim.Native.Nat.{ℕ, _-_, _≤_, _<_}
 use mathlib.Core.Path.{_≡_, sym, ap₂, _∙_}
 use native.Mathlib.Nat.{not-suc-le-zero}
 use native.Mathlib.Omega.{arith}
@@ -8,12 +10,8 @@ use lib.Dec.{eqb}
 use lib.ListN.{length, getD}
 use Rattle.ladder.specs.Numbers.{numbersOf}
 use Rattle.decode.proofs.Equality.{value-inside, number-at, part-lengths, numbers-agree, numbers-apart}
-use borrow.Author.Needs.{needs}
 use Rattle.decode.proofs.same.same_values.Statement.{statement}
 use Rattle.decode.proofs.same.same_values.Tie as tie
-use Rattle.decode.proofs.same.same_values.Reads as reads
-use Rattle.decode.proofs.same.same_values.Lts as lts
-use Rattle.decode.proofs.same.same_value.Reads as same-value-reads
 
 abbrev Inv-loop : tie.InvT-loop
 Inv-loop d k n values scalars j₀ j = (j ≤ d) × ((i : ℕ) → i < j → getD (numbersOf d k values) i 0 ≡ getD (numbersOf d n scalars) i 0)

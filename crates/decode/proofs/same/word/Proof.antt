@@ -1,10 +1,10 @@
+-- `word` meets its contract: past the last word there is 0.
+-- Assumes nothing.
 use mathlib.Core.Path.{sym}
 use lib.ListN.{List·getD-eq-default}
 use borrow.Author.Needs.{needs}
 use Rattle.decode.proofs.same.word.Statement.{statement}
 use Rattle.decode.proofs.same.word.Tie as tie
-use Rattle.decode.proofs.same.word.Reads as reads
-use Rattle.decode.proofs.same.word.Lts as lts
 
 mul-result : tie.Need-mul-result
 mul-result c = search needs

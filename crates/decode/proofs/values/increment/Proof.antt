@@ -1,18 +1,15 @@
-use mathlib.Core.Path.{refl, sym, ap, _∙_}
-use lib.ListN.{set}
+-- `increment` meets its contract: the words passed were full and are 0, and the one is owed to the next word.
+-- Assumes nothing.
+use mathlib.Core.Path.{refl, sym, ap, _∙_, _≡_}
+use lib.ListN.{set, length, getD, length-set}
 use Rattle.ladder.proofs.Numbers.{wordsOf-numberOf}
 use Rattle.decode.proofs.Words.{words-set, carry-ends, carry-on}
 use Prim.Native.Nat.{ℕ, _+_, _-_, _*_, _^_, _≤_, _<_}
-use mathlib.Core.Path.{_≡_}
-use lib.ListN.{length, getD, length-set}
 use native.Mathlib.Omega.{arith}
 use Rattle.ladder.specs.Numbers.{numberOf, wordsOf}
 use borrow.Author.Needs.{needs}
 use Rattle.decode.proofs.values.increment.Statement.{statement}
 use Rattle.decode.proofs.values.increment.Tie as tie
-use Rattle.decode.proofs.values.increment.Reads as reads
-use Rattle.decode.proofs.values.increment.Lts as lts
-use Rattle.std.proofs.num.wrapping_add_u64.Reads as wrapping-add-u64-reads
 
 abbrev Inv-loop : tie.InvT-loop
 Inv-loop words₀ i₀ words i = (i ≤ length words) × (length words ≡ length words₀) × ((k : ℕ) → getD words k 0 < 2 ^ 64) × (numberOf words + 2 ^ (64 * i) ≡ numberOf words₀ + 1)

@@ -1,11 +1,10 @@
+-- `store_full` meets its contract: the two ways are the two cases of the definition.
+-- Assumes nothing.
 use mathlib.Core.Path.{_∙_}
 use Rattle.decode.proofs.Partly.{full-held, full-stored, part-held, part-stored}
 use borrow.Author.Needs.{needs}
 use Rattle.decode.proofs.values.store_full.Statement.{statement}
 use Rattle.decode.proofs.values.store_full.Tie as tie
-use Rattle.decode.proofs.values.store_full.Reads as reads
-use Rattle.decode.proofs.values.store_full.Lts as lts
-use Rattle.decode.proofs.values.store_words.Reads as store-words-reads
 
 store-words-requires : tie.Need-store-words-requires
 store-words-requires c κs = search needs

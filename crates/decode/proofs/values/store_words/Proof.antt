@@ -1,16 +1,14 @@
-use mathlib.Core.Path.{ap, _∙_}
-use lib.ListN.{set}
+-- `store_words` meets its contract: one store a value, each at its word.
+-- Assumes nothing.
+use mathlib.Core.Path.{ap, _∙_, _≡_}
+use lib.ListN.{set, length, getD}
 use Rattle.decode.proofs.Words.{word-inside, length-stored, stored-next, stored-none}
-use Prim.Native.Nat.{ℕ, _+_, _-_, _*_, _≤_, _<_}
-use mathlib.Core.Path.{_≡_}
-use lib.ListN.{length, getD, length-set}
+use Prim.Native.Nat.{_+_, _-_, _*_, _≤_}
 use native.Mathlib.Omega.{arith}
 use Rattle.decode.specs.Inner.{stored}
 use borrow.Author.Needs.{needs}
 use Rattle.decode.proofs.values.store_words.Statement.{statement}
 use Rattle.decode.proofs.values.store_words.Tie as tie
-use Rattle.decode.proofs.values.store_words.Reads as reads
-use Rattle.decode.proofs.values.store_words.Lts as lts
 
 abbrev Inv-loop : tie.InvT-loop
 Inv-loop d k w values₀ held j₀ values j = (j ≤ d) × (values ≡ stored j k w held values₀)

@@ -5,7 +5,6 @@ use lib.ListN.{length}
 use native.Mathlib.Omega.{arith}
 use Rattle.walk.specs.WalkState.{walkState}
 use Rattle.walk.proofs.Starting.{Starting, starting-starts, starting-next, starting-ends}
-use borrow.Author.Needs.{needs}
 use Rattle.walk.proofs.start.start_walk.Statement.{statement}
 use Rattle.walk.proofs.start.start_walk.Tie as tie
 
