@@ -1,18 +1,18 @@
 -- What decode leaves is the answer row of the last matrix: the walk's row is that row, for every plan that is not refused.
 -- Assumes nothing.
-use Prim.Native.Nat.{ℕ, pred, _-_, _*_, _^_}
+use Prim.Native.Nat.{ℕ, pred, _-_, _*_}
 use mathlib.Core.Path.{_≡_, refl, sym, ap, ap₂, subst, _∙_}
-use mathlib.Core.Bool.{Bool, true, false, cond}
+use mathlib.Core.Bool.{Bool, false}
 use mathlib.Core.List.{List}
 use native.Mathlib.Numerals.{sub-one}
 use native.Mathlib.Omega.{arith}
-use lib.Dec.{eqb, ltb}
+use lib.Dec.{eqb}
 use lib.ListN.{length, getD}
-use Rattle.ladder.specs.Lists.{tabulate, all}
+use Rattle.ladder.specs.Lists.{tabulate}
 use Rattle.ladder.specs.Matrix.{startSigns, orderAfter}
 use Rattle.ladder.specs.Numbers.{numbersOf, scalarWords, scalarsLength, valuesLength, valueWords, wordsOfAll}
 use Rattle.ladder.specs.Plan.{Plan, startOrder, stepBits, orderIn, endOrder, answerRow, valuesIn}
-use Rattle.ladder.specs.Refusals.{_then_, unless, SCALAR, shape, scalar, scalarsIn, sameNumbers, decodeRefusal, checkRefusal}
+use Rattle.ladder.specs.Refusals.{_then_, unless, shape, scalar, scalarsIn, sameNumbers, decodeRefusal, checkRefusal}
 use Rattle.ladder.specs.Walk.{Walk, walkOf, orderOf}
 use Rattle.ladder.specs.Inner.Decoding.{walked, walkedEntry}
 use Rattle.ladder.proofs.Lists.{tabulate-same, tabulate-getD}
@@ -136,24 +136,21 @@ check-refused p scalars r e n =
     e ∙ sym (check-parts p scalars ∙ then-first (early p scalars) _ (λ z. n (e ∙ z))) in
     record { refusal-is = same; yes-is = sym (refusing-yes r false _ n) }
 
-pub check-too-large : (p : Plan) (scalars : List ℕ) → early p scalars ≡ 0
-    → all (λ k. ltb k (2 ^ p .l)) (scalarsIn (p .d) (p .l) scalars) ≡ false
-    → CheckPromise p scalars (record { refusal = 4; yes = false })
-unfolding scalar unless
-check-too-large p scalars z f = record {
-  refusal-is =
-      sym (check-parts p scalars ∙ then-next (early p scalars) _ z ∙ ap (λ t. cond t 0 SCALAR) f);
-  yes-is = sym (refusing-yes 4 false _ (λ q. absurd (omega arith)));
+pub check-too-large : (p : Plan) (scalars : List ℕ) (r : ℕ) → early p scalars ≡ 0 → r ≡ scalar (p .l) (scalarsIn (p .d) (p .l) scalars) → (r ≡ 0 → ⊥)
+    → CheckPromise p scalars (record { refusal = r; yes = false })
+check-too-large p scalars r z e n = record {
+  refusal-is = e ∙ sym (check-parts p scalars ∙ then-next (early p scalars) _ z);
+  yes-is = sym (refusing-yes r false _ n);
 }
 
 pub check-accepted : (p : Plan) (scalars : List ℕ) (w : Walk) (said : Bool) → early p scalars ≡ 0
-    → all (λ k. ltb k (2 ^ p .l)) (scalarsIn (p .d) (p .l) scalars) ≡ true → w ≡ started (p .d) (p .start)
+    → scalar (p .l) (scalarsIn (p .d) (p .l) scalars) ≡ 0 → w ≡ started (p .d) (p .start)
     → said ≡ rowSame w (p .l) (p .bits) (p .answer - 1) scalars → CheckPromise p scalars (record { refusal = 0; yes = said })
-unfolding scalar unless rowSame scalarsIn
+unfolding rowSame scalarsIn
 check-accepted p scalars w said z f e y =
     let ok = early-none p scalars z .0 .plan in
     record {
-      refusal-is = sym (check-parts p scalars ∙ then-next (early p scalars) _ z ∙ ap (λ t. cond t 0 SCALAR) f);
+      refusal-is = sym (check-parts p scalars ∙ then-next (early p scalars) _ z ∙ f);
       yes-is =
           y
           ∙ ap₂ (λ n v. sameNumbers (numbersOf n (valueWords (p .l)) v) (numbersOf n (scalarWords (p .l)) scalars))

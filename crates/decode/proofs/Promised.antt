@@ -1,21 +1,26 @@
 -- What follows from the promises of encode, decode and check alone.
 -- Assumes nothing.
-use Prim.Native.Nat.{ℕ, _%_, _^_, _<_}
+use Prim.Native.Nat.{ℕ, _*_, _%_, _^_, _<_}
 use mathlib.Core.Path.{_≡_, sym, ap, subst, _∙_}
 use mathlib.Core.Logic.{_≢_, _↔_}
 use mathlib.Core.Bool.{true, false}
-use mathlib.Core.List.{List, [], _∷_, _++_}
-use lib.ListN.{length}
-use Rattle.ladder.specs.Numbers.{numbersOf, wordsOf, wordsOfAll, scalarWords, startLength, bitsLength, valueWords, valuesLength}
+use mathlib.Core.List.{List, [], _∷_, _++_, flatten}
+use native.Mathlib.Omega.{arith}
+use lib.ListN.{length, getD, drop, length-drop}
+use lib.Seq.{length-take-le}
+use Rattle.ladder.specs.Lists.{tabulate}
+use Rattle.ladder.specs.Numbers.{numberOf, numbersOf, wordsOf, wordsOfAll, scalarWords, startLength, bitsLength, valueWords, valuesLength, scalarsLength}
 use Rattle.ladder.specs.Plan.{Plan, answerRow, valuesIn}
 use Rattle.ladder.specs.Refusals.{scalarsIn, planShape, shape}
-use Rattle.ladder.proofs.Numbers.{value-words, value-words-full}
+use Rattle.ladder.proofs.Lists.{map-tabulate, tabulate-same}
+use Rattle.ladder.proofs.Numbers.{wordsOf-numberOf, wordsOfAll-numbersOf, value-words-full}
 use Rattle.ladder.proofs.Tests.{then-none, refusing-no, refusing-yes}
 use Rattle.ladder.proofs.Refusals.{shape-none, accepted-shapes}
 use Rattle.ladder.proofs.Operations.{EncodeOk, DecodeOk, CheckOk, PlanOk, decode-none, check-none}
 use Rattle.ladder.proofs.Demand2.{decode-words}
 use Rattle.encode.specs.Promise.{EncodePromise}
 use Rattle.encode.specs.declared.call.Encoded.{Encoded}
+use Rattle.encode.proofs.Words.{own, own-below, number-at, within}
 use Rattle.encode.proofs.Promised.{written, encode-plan, encode-not-refused, encode-decodes}
 use Rattle.decode.specs.Promise.{DecodePromise, CheckPromise}
 use Rattle.decode.specs.declared.calls.Checked.{Checked}
@@ -65,21 +70,44 @@ module _ {d l : ℕ} {scalars start bits : List ℕ} {e : Encoded} {startLeft bi
       let got = decode-accepted x (record { plan = plan-ok; valuesLong = long }) in
       (got .0, ap (numbersOf d (valueWords l)) (got .1) ∙ decode-words plan (encode-plan promise ok) ∙ encode-decodes promise ok)
 
-  -- .. and as words.
+  -- .. and as words, whose columns are those of the scalars ..
   pub decode-encoded-words : (values after : List ℕ) (r : ℕ) → length values ≡ valuesLength d l → DecodePromise plan values r after
       → after ≡ wordsOfAll (valueWords l) (scalarsIn d l scalars)
   unfolding valuesIn
   decode-encoded-words values after r long x =
       decode-accepted x (record { plan = plan-ok; valuesLong = long }) .1 ∙ ap (wordsOfAll (valueWords l)) (encode-decodes promise ok)
 
+  module _ (words : (i : ℕ) → getD scalars i 0 < 2 ^ 64) (values after : List ℕ) (r : ℕ) (long : length values ≡ valuesLength d l)
+      (decoded : DecodePromise plan values r after) where
+    -- .. the very words of the scalars where 64 does not divide l ..
+    pub decode-encoded-same : l % 64 ≢ 0 → after ≡ scalars
+    unfolding scalarsIn scalarsLength
+    decode-encoded-same e =
+        let same : valueWords l ≡ scalarWords l = unfold valueWords scalarWords in omega arith in
+        decode-encoded-words values after r long decoded
+        ∙ ap (λ k. wordsOfAll k (numbersOf d (scalarWords l) scalars)) same
+        ∙ wordsOfAll-numbersOf d (scalarWords l) scalars (ok .scalarsLong) words
+
+    -- .. and each scalar's words, then a zero word, where it does.
+    pub decode-encoded-full : l % 64 ≡ 0 → after ≡ flatten (tabulate d (λ j. own (scalarWords l) scalars j ++ (0 ∷ [])))
+    unfolding scalarsIn scalarsLength wordsOfAll numbersOf
+    decode-encoded-full e =
+        decode-encoded-words values after r long decoded
+        ∙ ap flatten (map-tabulate (wordsOf (valueWords l)) d (λ j. numberOf (own (scalarWords l) scalars j)) ∙ tabulate-same d _ _ column)
+      where
+        column : (j : ℕ) → j < d
+            → wordsOf (valueWords l) (numberOf (own (scalarWords l) scalars j)) ≡ own (scalarWords l) scalars j ++ (0 ∷ [])
+        column j h =
+            let k = scalarWords l in
+            let inside = within d k (length scalars) j (ok .scalarsLong) h in
+            let small : numberOf (own k scalars j) < 2 ^ l =
+            subst (λ n. n < 2 ^ l) (number-at d k scalars j h) (ok .fit j h) in
+            value-words-full l (numberOf (own k scalars j)) small e
+            ∙ ap (λ ws. ws ++ (0 ∷ [])) (wordsOf-numberOf k (own k scalars j)
+            (length-take-le k (drop (j * k) scalars) (omega (arith, length-drop (j * k) scalars))) (own-below k scalars words j))
+
   -- Check of it says yes.
   pub check-encoded : (r : Checked) → CheckPromise plan scalars r → (r .refusal ≡ 0) × (r .yes ≡ true)
   check-encoded r x =
       let z = check-accepts x .1 (record { plan = plan-ok; scalarsLong = ok .scalarsLong; fit = ok .fit }) in
       (z, x .yes-is ∙ refusing-no _ false _ z ∙ sym (lists-same (answerRow plan) (scalarsIn d l scalars) (encode-decodes promise ok)))
-
--- Column by column, a decoded value's words are the scalar's words, with one zero word more where 64 divides l: `value-words` and
--- `value-words-full` of the ladder's laws, at each scalar below 2^l.
-pub decoded-column : (l n : ℕ) → n < 2 ^ l
-    → (l % 64 ≡ 0 → wordsOf (valueWords l) n ≡ wordsOf (scalarWords l) n ++ (0 ∷ [])) × (l % 64 ≢ 0 → wordsOf (valueWords l) n ≡ wordsOf (scalarWords l) n)
-decoded-column l n h = (value-words-full l n h, value-words l n h)

@@ -1,16 +1,15 @@
 // The public calls: decode and check.
 use crate::answer::answer_values;
 use crate::answer::row_is;
-use encode::scalars::scalars_below;
+use encode::scalars::scalar;
 use refuse::OK;
-use refuse::SCALAR;
 use refuse::lent_plan;
 use refuse::scalars_length;
 use refuse::shape;
 use refuse::values_length;
 use walk::start::start_walk;
 ghost use Rattle.decode.specs.Promise.{CheckPromise, DecodePromise};
-ghost use Rattle.refuse.specs.Inner.{planLent};
+ghost use Rattle.ladder.specs.Plan.{planLent};
 
 // The answer of check: the refusal, and yes or no.
 pub struct Checked {
@@ -58,9 +57,10 @@ pub fn check(d: u64, l: u64, start: &[u8], bits: &[u8], row: u64, scalars: &[u64
             yes: false,
         };
     }
-    if !scalars_below(d as usize, l as usize, scalars) {
+    let late = scalar(d as usize, l as usize, scalars);
+    if late != OK {
         return Checked {
-            refusal: SCALAR,
+            refusal: late,
             yes: false,
         };
     }

@@ -26,7 +26,7 @@ pub fn columns_above(order: [u8; 8], row: usize) -> [u64; 8]
     above
 }
 
-// Adds one to value j where its parity is not that of the row.
+// Adds one to value j where its lowest bit, `digit`, is not `above`, which is 1 for a column that stands above the row, else 0.
 fn raise_one(values: &mut [u64], k: usize, j: usize, digit: u64, above: u64)
     requires { ⌜ OneRaisable k j (now values) ⌝ }
     ensures { λ r. ⌜ now (values .exit) ≡ raisedOne k j digit above (now (values .entry)) ⌝ }

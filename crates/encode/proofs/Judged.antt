@@ -1,15 +1,13 @@
 -- The call's refusal, parted after number 3 and worked out with lengths that are 0 out of range. Rests on the order of refusals: out
 -- of range d or l is refused first.
 -- Assumes nothing.
-use Prim.Native.Nat.{ℕ, _^_}
+use Prim.Native.Nat.{ℕ}
 use mathlib.Core.Path.{_≡_, sym, ap, _∙_}
-use mathlib.Core.Bool.{Bool}
 use mathlib.Core.List.{List}
-use lib.Dec.{eqb, ltb}
+use lib.Dec.{eqb}
 use lib.ListN.{length}
-use Rattle.ladder.specs.Lists.{all}
 use Rattle.ladder.specs.Numbers.{numbersOf, scalarWords, scalarsLength, startLength, bitsLength}
-use Rattle.ladder.specs.Refusals.{_then_, unless, SHAPE, SCALAR, dim, len, shape, scalar, scalarsIn, encodeRefusal}
+use Rattle.ladder.specs.Refusals.{_then_, unless, SHAPE, dim, len, shape, scalar, scalarsIn, encodeRefusal}
 use Rattle.ladder.proofs.Tests.{then-none, then-first, then-next, then-assoc}
 use Rattle.ladder.proofs.Refusals.{dim-none, len-none, shape-none}
 use Rattle.refuse.specs.Inner.{sized}
@@ -51,10 +49,9 @@ module _ (d l : ℕ) (scalars start bits : List ℕ) where
         sym (parts ∙ ap (λ k. k then last) (sym worked) ∙ then-first n last ne)
 
     -- Where nothing does, the scalars decide ..
-    pub judged-late : n ≡ 0 → (below : Bool) → below ≡ all (λ k. ltb k (2 ^ l)) (numbersOf d (scalarWords l) scalars)
-        → unless below SCALAR ≡ encodeRefusal d l scalars start bits
-    unfolding scalar scalarsIn
-    judged-late e below tested = ap (λ t. unless t SCALAR) tested ∙ sym (parts ∙ then-next early _ (sym worked ∙ e))
+    pub judged-late : n ≡ 0 → scalar l (numbersOf d (scalarWords l) scalars) ≡ encodeRefusal d l scalars start bits
+    unfolding scalarsIn
+    judged-late e = sym (parts ∙ then-next early _ (sym worked ∙ e))
 
     -- .. and they have their words.
     pub judged-shaped : n ≡ 0 → Shaped d l scalars

@@ -1,10 +1,9 @@
 // The public call: total on any input, since it judges everything that it was lent before it looks into it.
 use crate::order::house_order;
 use crate::scalars::odd_count;
-use crate::scalars::scalars_below;
+use crate::scalars::scalar;
 use crate::steps::encode_with;
 use refuse::OK;
-use refuse::SCALAR;
 ghost use mathlib.Core.Path.{_≡_};
 ghost use Rattle.ladder.specs.Refusals.{encodeRefusal};
 ghost use Rattle.encode.specs.Promise.{EncodePromise};
@@ -29,8 +28,7 @@ fn encode_refusal(d: u64, l: u64, scalars: &[u64], start: &[u8], bits: &[u8]) ->
     if early != OK {
         return early;
     }
-    let below = scalars_below(d as usize, l as usize, scalars);
-    if below { OK } else { SCALAR }
+    scalar(d as usize, l as usize, scalars)
 }
 
 // Writes the start order and the bits of the plan of d scalars of l bits with the house order as end order, and answers its row.

@@ -18,7 +18,8 @@ struct Parted {
     h: usize,
 }
 
-// The columns with bit 1 and those with bit 0, each in their places. r is the bits as one number, the first highest.
+// The columns with bit 1 and those with bit 0, each in their places. r is the bits as one number, the first highest. A
+// column is put at the end of both lists; the next pass writes over the one that it is not of.
 fn collect(order: [u8; 8], d: usize, r: u64) -> Parted
     requires { ⌜ d ≤ 8 ⌝ }
     ensures { λ p. ⌜ Collected (take d order) (bitsOf d r) d p ⌝ }

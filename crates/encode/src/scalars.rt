@@ -1,10 +1,13 @@
 // Scalars in lent words: d of them, ceil(l / 64) words of 64 bits each, lowest word first. Nothing here knows of plans.
+use refuse::OK;
+use refuse::SCALAR;
 ghost use mathlib.Core.Path.{_≡_};
 ghost use Prim.Native.Nat.{_+_, _*_, _/_, _%_, _^_, _≤_, _<_};
 ghost use lib.Dec.{ltb};
 ghost use lib.ListN.{length, take, drop};
 ghost use Rattle.ladder.specs.Lists.{all, odds};
 ghost use Rattle.ladder.specs.Numbers.{numberOf, numbersOf, scalarWords};
+ghost use Rattle.ladder.specs.Refusals.{scalar};
 ghost use Rattle.encode.specs.Inner.Scalars.{Shaped, Fitting, gathered};
 
 // The words of one scalar: ceil(l / 64).
@@ -58,7 +61,7 @@ pub fn odd_count(d: usize, l: usize, scalars: &[u64]) -> u64
 }
 
 // Whether every scalar is below 2^l. Of each only the top word matters, which has (l - 1) % 64 + 1 of the l bits.
-pub fn scalars_below(d: usize, l: usize, scalars: &[u64]) -> bool
+fn scalars_below(d: usize, l: usize, scalars: &[u64]) -> bool
     requires { ⌜ Shaped d l (now scalars) ⌝ }
     ensures { λ r. ⌜ r ≡ all (λ n. ltb n (2 ^ l)) (numbersOf d (scalarWords l) (now (scalars .entry))) ⌝ }
 {
@@ -72,4 +75,13 @@ pub fn scalars_below(d: usize, l: usize, scalars: &[u64]) -> bool
         j += 1;
     }
     true
+}
+
+// Number 4 of the table: a scalar is 2^l or more.
+pub fn scalar(d: usize, l: usize, scalars: &[u64]) -> u64
+    requires { ⌜ Shaped d l (now scalars) ⌝ }
+    ensures { λ r. ⌜ r ≡ scalar l (numbersOf d (scalarWords l) (now (scalars .entry))) ⌝ }
+{
+    let below = scalars_below(d, l, scalars);
+    if below { OK } else { SCALAR }
 }

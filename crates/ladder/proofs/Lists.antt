@@ -34,6 +34,11 @@ tabulate-same (suc n) f g e =
     (tabulate-same n (λ k. f (suc k)) (λ k. g (suc k)) (λ k h. e (suc k) (omega arith)))
 
 -- A list is made from its own elements.
+pub map-tabulate : {A B : Type 0} (g : A → B) (n : ℕ) (f : ℕ → A) → map g (tabulate n f) ≡ tabulate n (λ k. g (f k))
+unfolding tabulate
+map-tabulate g zero f = refl
+map-tabulate g (suc n) f = ap (λ l. g (f 0) ∷ l) (map-tabulate g n (λ k. f (suc k)))
+
 pub tabulate-getD : {A : Type 0} (l : List A) (z : A) → tabulate (length l) (λ k. getD l k z) ≡ l
 unfolding tabulate
 tabulate-getD [] z = refl

@@ -54,10 +54,11 @@ pub difference-at : (d : ℕ) (v u : Row) (j : ℕ) → j < d → getD (differen
 unfolding difference
 difference-at d v u j h = getD-tabulate d (λ i. subℕ (getD v i 0) (getD u i 0)) j (pos 0) h
 
--- A coefficient -1, 0 or 1.
+-- 1 or -1.
 pub IsUnit : ℤ → Type 0
 IsUnit s = (s ≡ pos 1) ⊎ (s ≡ negsuc 0)
 
+-- A coefficient: -1, 0 or 1.
 pub IsSmall : ℤ → Type 0
 IsSmall s = (s ≡ pos 0) ⊎ IsUnit s
 

@@ -15,6 +15,10 @@ pub record Plan : Type 0 where
   pub bits : List ℕ
   pub answer : ℕ
 
+-- A plan as its parts are lent to a call.
+abbrev pub planLent : ℕ → ℕ → List ℕ → List ℕ → ℕ → Plan
+planLent d l start bits answer = record { d = d; l = l; start = start; bits = bits; answer = answer }
+
 -- The start order, columns from 0.
 unfoldable pub startOrder : Plan → List ℕ
 startOrder p = map pred (p .start)

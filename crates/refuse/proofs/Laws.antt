@@ -14,9 +14,9 @@ use native.Mathlib.Numerals.{add-one}
 use Rattle.ladder.specs.Lists.{all, same, count}
 use Rattle.ladder.proofs.Tests.{then-first, then-next, then-assoc}
 use Rattle.ladder.specs.Numbers.{bitsLength, startLength}
-use Rattle.ladder.specs.Plan.{Plan}
+use Rattle.ladder.specs.Plan.{Plan, planLent}
 use Rattle.ladder.specs.Refusals.{_then_, unless, within, dim, len, order, answer, planRefusal, planShape, shape, eachOnce, isArrangement}
-use Rattle.refuse.specs.Inner.{inRange, sized, planRead, planLent, lentRefusal}
+use Rattle.refuse.specs.Inner.{inRange, sized, planRead, lentRefusal}
 
 -- ---- a range
 

@@ -10,10 +10,6 @@ use Rattle.ladder.specs.Refusals.{_then_, within, planRefusal, planShape}
 abbrev pub planRead : ℕ → ℕ → List ℕ → ℕ → Plan
 planRead d l start answer = record { d = d; l = l; start = start; bits = []; answer = answer }
 
--- A loose plan, as its parts are lent.
-abbrev pub planLent : ℕ → ℕ → List ℕ → List ℕ → ℕ → Plan
-planLent d l start bits answer = record { d = d; l = l; start = start; bits = bits; answer = answer }
-
 -- The refusal of a loose plan, its own shapes and that of the call's third buffer at number 3.
 unfoldable pub lentRefusal : Plan → ℕ → ℕ
 lentRefusal p third = planRefusal p (planShape p then third)

@@ -5,7 +5,8 @@ use crate::ranges::within;
 ghost use mathlib.Core.Path.{_≡_};
 ghost use lib.Dec.{eqb};
 ghost use Rattle.ladder.specs.Refusals.{_then_, unless, within, dim, len, order, answer, planRefusal};
-ghost use Rattle.refuse.specs.Inner.{planRead, planLent, lentRefusal};
+ghost use Rattle.ladder.specs.Plan.{planLent};
+ghost use Rattle.refuse.specs.Inner.{planRead, lentRefusal};
 
 pub const OK: u64 = 0;
 

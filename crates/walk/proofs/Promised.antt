@@ -1,6 +1,6 @@
 -- What follows from the promises of step and trace alone, for a crate above to cite.
 -- Assumes nothing.
-use Prim.Native.Nat.{ℕ, zero, suc, _-_, _*_, _^_, _<_}
+use Prim.Native.Nat.{ℕ, zero, suc, _-_, _*_, _^_, _≤_, _<_}
 use mathlib.Core.Path.{_≡_, sym, ap, subst, _∙_}
 use mathlib.Core.List.{List}
 use native.Mathlib.Omega.{arith}
@@ -79,17 +79,17 @@ module _ (p : Plan) (ok : Accepted p) where
       let done = step-accepted w (numberOfBits (stepBits p s)) r promised (subst (λ v. StepOk v (numberOfBits (stepBits p s))) (sym e) asked) in
       (done .0, done .1 ∙ ap (λ v. stepWalk v (numberOfBits (stepBits p s))) e ∙ step-in s)
 
-  -- So the walk of the start order and signs +1, stepped with the plan's bits, holds the order and the signs before each step, and no
-  -- step refuses. Walk s is what stands before step s, and r s what that step answers.
-  pub walks-along : (w : ℕ → Walk) (r : ℕ → Stepped) → walkState (w 0) ≡ walkOf (p .d) (startOrder p) (startSigns (p .d))
-      → ((s : ℕ) → StepPromise (w s) (numberOfBits (stepBits p s)) (r s)) → ((s : ℕ) → w (suc s) ≡ r s .walk)
-      → (n : ℕ) → (walkState (w n) ≡ walkOf (p .d) (orderIn p n) (signsIn p n)) × (r n .refusal ≡ 0)
+  -- So the walk of the start order and signs +1, stepped n times with the plan's bits, holds the order and the signs before each
+  -- step and after the last, and no step refuses. Walk s is what stands before step s, and r s what that step answers.
+  pub walks-along : (w : ℕ → Walk) (r : ℕ → Stepped) (n : ℕ) → walkState (w 0) ≡ walkOf (p .d) (startOrder p) (startSigns (p .d))
+      → ((s : ℕ) → s < n → StepPromise (w s) (numberOfBits (stepBits p s)) (r s)) → ((s : ℕ) → s < n → w (suc s) ≡ r s .walk)
+      → ((s : ℕ) → s ≤ n → walkState (w s) ≡ walkOf (p .d) (orderIn p s) (signsIn p s)) × ((s : ℕ) → s < n → r s .refusal ≡ 0)
   unfolding orderIn signsIn orderAfter signsAfter
-  walks-along w r begins promised next n = (stands n, steps-along n (w n) (r n) (stands n) (promised n) .0)
+  walks-along w r n begins promised next = (stands, λ s h. steps-along s (w s) (r s) (stands s (omega arith)) (promised s h) .0)
     where
-      stands : (s : ℕ) → walkState (w s) ≡ walkOf (p .d) (orderIn p s) (signsIn p s)
-      stands zero = begins
-      stands (suc s) = ap walkState (next s) ∙ steps-along s (w s) (r s) (stands s) (promised s) .1
+      stands : (s : ℕ) → s ≤ n → walkState (w s) ≡ walkOf (p .d) (orderIn p s) (signsIn p s)
+      stands zero h = begins
+      stands (suc s) h = ap walkState (next s h) ∙ steps-along s (w s) (r s) (stands s (omega arith)) (promised s h) .1
 
 -- ---- trace
 

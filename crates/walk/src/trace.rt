@@ -1,6 +1,7 @@
 // The public call `trace`.
 use crate::start::start_walk;
 use crate::steps::trace_steps;
+ghost use Rattle.ladder.specs.Plan.{planLent};
 ghost use mathlib.Core.Path.{_≡_};
 ghost use Rattle.ladder.specs.Refusals.{traceRefusal};
 ghost use Rattle.walk.specs.Promise.{TracePromise};
@@ -14,7 +15,7 @@ pub struct TraceAnswer {
 
 // The refusal of a trace: 1, 2, 3, 5, 6, where 3 covers the start order, the bits and the trace buffer.
 fn trace_refusal(d: u64, l: u64, start: &[u8], bits: &[u8], row: u64, out: &[u8]) -> u64
-    ensures { λ r. ⌜ r ≡ traceRefusal (record { d = d; l = l; start = now (start .entry); bits = now (bits .entry); answer = row }) (now (out .entry)) ⌝ }
+    ensures { λ r. ⌜ r ≡ traceRefusal (planLent d l (now (start .entry)) (now (bits .entry)) row) (now (out .entry)) ⌝ }
 {
     let room = refuse::shape(out.len(), refuse::trace_length(d, l));
     refuse::lent_plan(d, l, start, bits, row, room)
@@ -22,7 +23,7 @@ fn trace_refusal(d: u64, l: u64, start: &[u8], bits: &[u8], row: u64, out: &[u8]
 
 // The trace of a plan: for each step its doubling and its d additions, each x, y and the difference of the two rows.
 pub fn trace(d: u64, l: u64, start: &[u8], bits: &[u8], row: u64, out: &mut [u8]) -> TraceAnswer
-    ensures { λ r. ⌜ TracePromise (record { d = d; l = l; start = now (start .entry); bits = now (bits .entry); answer = row }) (now (out .entry)) r (now (out .exit)) ⌝ }
+    ensures { λ r. ⌜ TracePromise (planLent d l (now (start .entry)) (now (bits .entry)) row) (now (out .entry)) r (now (out .exit)) ⌝ }
 {
     let refusal = trace_refusal(d, l, start, bits, row, out);
     if refusal != refuse::OK {

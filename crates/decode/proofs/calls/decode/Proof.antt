@@ -7,7 +7,8 @@ use lib.ListN.{length}
 use Rattle.ladder.specs.Numbers.{startLength, valuesLength}
 use Rattle.ladder.specs.Refusals.{unless}
 use Rattle.ladder.proofs.Operations.{decode-none}
-use Rattle.refuse.specs.Inner.{planLent, lentRefusal, sized}
+use Rattle.ladder.specs.Plan.{planLent}
+use Rattle.refuse.specs.Inner.{lentRefusal, sized}
 use Rattle.decode.proofs.Decoded.{decode-refusal-is, decode-refused, decode-accepted, at-start, started-d, row-decoded}
 use borrow.Author.Needs.{needs}
 use Rattle.decode.proofs.calls.decode.Statement.{statement}

@@ -1,11 +1,10 @@
 -- `encode_refusal` meets its contract. Rests on the refusal's parts before and after number 4 (`judged-early`, `judged-late`).
 -- Assumes nothing.
-use mathlib.Core.Path.{_≡_, sym, ap, ap₂, _∙_}
+use mathlib.Core.Path.{_≡_, ap, ap₂, _∙_}
 use borrow.Author.Needs.{needs}
 use lib.Dec.{eqb}
 use lib.ListN.{length}
 use Rattle.ladder.specs.Refusals.{_then_, unless, SHAPE}
-use Rattle.refuse.proofs.Laws.{unless-yes, unless-no}
 use Rattle.encode.proofs.Judged.{early, judged-early, judged-late, judged-shaped}
 use Rattle.encode.proofs.call.encode_refusal.Statement.{statement}
 use Rattle.encode.proofs.call.encode_refusal.Tie as tie
@@ -68,22 +67,15 @@ first-requires-4 c κs = search needs
 returns : tie.Need-returns
 returns c = judged-early _ _ _ _ _ _ (worked (c .before)) (c .if1 .taken)
 
-scalars-below-requires : tie.Need-scalars-below-requires
-scalars-below-requires c κs =
+scalar-requires : tie.Need-scalar-requires
+scalar-requires c κs =
     let a = entry (c .before) .args in
     judged-shaped _ _ _ (a .start .now) (a .bits .now) _ (worked (c .before)) (c .if1 .left)
 
 returns-2 : tie.Need-returns-2
 returns-2 c =
-    let passed = c .before .before in
-    sym (unless-yes _ _ (c .if2 .taken))
-    ∙ judged-late _ _ _ _ _ _ (worked (passed .before)) (passed .if1 .left) _ (c .before .scalars-below .ensures)
-
-returns-3 : tie.Need-returns-3
-returns-3 c =
-    let passed = c .before .before in
-    sym (unless-no _ _ (c .if2 .left))
-    ∙ judged-late _ _ _ _ _ _ (worked (passed .before)) (passed .if1 .left) _ (c .before .scalars-below .ensures)
+    let passed = c .before in
+    c .scalar .ensures ∙ judged-late _ _ _ _ _ _ (worked (passed .before)) (passed .if1 .left)
 
 pub encode-refusal-spec : {M : Type 1} → statement M
 encode-refusal-spec =
@@ -101,6 +93,5 @@ encode-refusal-spec =
     first-requires-3
     first-requires-4
     returns
-    scalars-below-requires
-    returns-2
-    returns-3)
+    scalar-requires
+    returns-2)

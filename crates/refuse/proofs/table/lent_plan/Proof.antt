@@ -5,7 +5,8 @@ use lib.Dec.{eqb}
 use lib.ListN.{length}
 use Rattle.ladder.specs.Numbers.{bitsLength}
 use Rattle.ladder.specs.Refusals.{_then_, unless, planRefusal}
-use Rattle.refuse.specs.Inner.{planLent, sized}
+use Rattle.ladder.specs.Plan.{planLent}
+use Rattle.refuse.specs.Inner.{sized}
 use Rattle.refuse.proofs.Laws.{read-lent, lent-is}
 use borrow.Author.Needs.{needs}
 use Rattle.refuse.proofs.table.lent_plan.Statement.{statement}

@@ -1,5 +1,6 @@
 -- `trace_refusal` meets its contract: out of range the buffer is measured by 0, which no one sees.
 -- Assumes nothing.
+use Rattle.ladder.specs.Plan.{planLent}
 use Rattle.walk.proofs.Judging.{trace-judged}
 use borrow.Author.Needs.{needs}
 use Rattle.walk.proofs.trace.trace_refusal.Statement.{statement}
@@ -17,7 +18,7 @@ lent-plan-requires c κs = search needs
 returns : tie.Need-returns
 returns c =
     let a = c .before .before .before .before .before .before .args in
-    cc (trace-judged (record { d = a .d; l = a .l; start = a .start .now; bits = a .bits .now; answer = a .row }) (a .out .now))
+    cc (trace-judged (planLent (a .d) (a .l) (a .start .now) (a .bits .now) (a .row)) (a .out .now))
 
 pub trace-refusal-spec : {M : Type 1} → statement M
 trace-refusal-spec =
