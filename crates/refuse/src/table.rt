@@ -1,4 +1,4 @@
-// A function for each number of the table, and the first refusal that applies.
+// A function for each number of the table that a plan can be refused by, and the first refusal that applies. Number 4 stands with the scalars.
 use crate::lengths::bits_length;
 use crate::orders::arrangement;
 use crate::ranges::within;
