@@ -91,11 +91,11 @@ started-d d start w e = ap (λ v. v .d) e
 
 -- ---- the promise
 
-pub decode-refused : (p : Plan) (values : List ℕ) (r : ℕ) → r ≡ decodeRefusal p values → (r ≡ 0 → ⊥) → DecodePromise p values r values
-decode-refused p values r e n = record { refusal-is = e; values-are = sym (refusing-yes r values (valuesIn p) n) }
+pub keeps-decode-refused : (p : Plan) (values : List ℕ) (r : ℕ) → r ≡ decodeRefusal p values → (r ≡ 0 → ⊥) → DecodePromise p values r values
+keeps-decode-refused p values r e n = record { refusal-is = e; values-are = sym (refusing-yes r values (valuesIn p) n) }
 
-pub decode-accepted : (p : Plan) (values after : List ℕ) → 0 ≡ decodeRefusal p values → after ≡ valuesIn p → DecodePromise p values 0 after
-decode-accepted p values after e f = record { refusal-is = e; values-are = f ∙ sym (refusing-no 0 values (valuesIn p) refl) }
+pub keeps-decode : (p : Plan) (values after : List ℕ) → 0 ≡ decodeRefusal p values → after ≡ valuesIn p → DecodePromise p values 0 after
+keeps-decode p values after e f = record { refusal-is = e; values-are = f ∙ sym (refusing-no 0 values (valuesIn p) refl) }
 
 -- ---- check
 
@@ -129,25 +129,25 @@ checkable p scalars ok long w e =
       long = long ∙ ap (λ n. n * scalarWords (p .l)) (sym same);
     }
 
-pub check-refused : (p : Plan) (scalars : List ℕ) (r : ℕ) → r ≡ early p scalars → (r ≡ 0 → ⊥)
+pub keeps-check-refused : (p : Plan) (scalars : List ℕ) (r : ℕ) → r ≡ early p scalars → (r ≡ 0 → ⊥)
     → CheckPromise p scalars (record { refusal = r; yes = false })
-check-refused p scalars r e n =
+keeps-check-refused p scalars r e n =
     let same : r ≡ checkRefusal p scalars =
     e ∙ sym (check-parts p scalars ∙ then-first (early p scalars) _ (λ z. n (e ∙ z))) in
     record { refusal-is = same; yes-is = sym (refusing-yes r false _ n) }
 
-pub check-too-large : (p : Plan) (scalars : List ℕ) (r : ℕ) → early p scalars ≡ 0 → r ≡ scalar (p .l) (scalarsIn (p .d) (p .l) scalars) → (r ≡ 0 → ⊥)
+pub keeps-check-large : (p : Plan) (scalars : List ℕ) (r : ℕ) → early p scalars ≡ 0 → r ≡ scalar (p .l) (scalarsIn (p .d) (p .l) scalars) → (r ≡ 0 → ⊥)
     → CheckPromise p scalars (record { refusal = r; yes = false })
-check-too-large p scalars r z e n = record {
+keeps-check-large p scalars r z e n = record {
   refusal-is = e ∙ sym (check-parts p scalars ∙ then-next (early p scalars) _ z);
   yes-is = sym (refusing-yes r false _ n);
 }
 
-pub check-accepted : (p : Plan) (scalars : List ℕ) (w : Walk) (said : Bool) → early p scalars ≡ 0
+pub keeps-check : (p : Plan) (scalars : List ℕ) (w : Walk) (said : Bool) → early p scalars ≡ 0
     → scalar (p .l) (scalarsIn (p .d) (p .l) scalars) ≡ 0 → w ≡ started (p .d) (p .start)
     → said ≡ rowSame w (p .l) (p .bits) (p .answer - 1) scalars → CheckPromise p scalars (record { refusal = 0; yes = said })
 unfolding rowSame scalarsIn
-check-accepted p scalars w said z f e y =
+keeps-check p scalars w said z f e y =
     let ok = early-none p scalars z .0 .plan in
     record {
       refusal-is = sym (check-parts p scalars ∙ then-next (early p scalars) _ z ∙ f);

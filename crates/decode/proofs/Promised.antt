@@ -6,6 +6,7 @@ use mathlib.Core.Logic.{_≢_, _↔_}
 use mathlib.Core.Bool.{true, false}
 use mathlib.Core.List.{List, [], _∷_, _++_, flatten}
 use native.Mathlib.Omega.{arith}
+use lib.Dec.{T}
 use lib.ListN.{length, getD, drop, length-drop}
 use lib.Seq.{length-take-le}
 use Rattle.ladder.specs.Lists.{tabulate}
@@ -16,6 +17,7 @@ use Rattle.ladder.proofs.Lists.{map-tabulate, tabulate-same}
 use Rattle.ladder.proofs.Numbers.{wordsOf-numberOf, wordsOfAll-numbersOf, value-words-full}
 use Rattle.ladder.proofs.Tests.{then-none, refusing-no, refusing-yes}
 use Rattle.ladder.proofs.Refusals.{shape-none, accepted-shapes}
+use Rattle.ladder.proofs.FileRefusals.{sameNumbers-says}
 use Rattle.ladder.proofs.Operations.{EncodeOk, DecodeOk, CheckOk, PlanOk, decode-none, check-none}
 use Rattle.ladder.proofs.Demand2.{decode-words}
 use Rattle.encode.specs.Promise.{EncodePromise}
@@ -42,8 +44,31 @@ decode-accepted {p} {values} x ok =
 pub decode-refused : {p : Plan} {values : List ℕ} {r : ℕ} {after : List ℕ} → DecodePromise p values r after → (r ≡ 0 → ⊥) → after ≡ values
 decode-refused {p} {values} x n = x .values-are ∙ refusing-yes _ values (valuesIn p) n
 
+-- Check's refusal is 0 exactly where the plan, the scalars and their buffer are what it asks ..
 pub check-accepts : {p : Plan} {scalars : List ℕ} {r : Checked} → CheckPromise p scalars r → r .refusal ≡ 0 ↔ CheckOk p scalars
 check-accepts {p} {scalars} x = subst (λ n. n ≡ 0 ↔ CheckOk p scalars) (sym (x .refusal-is)) (check-none p scalars)
+
+-- .. then it says yes exactly where the answer row is the scalars ..
+pub check-accepted : {p : Plan} {scalars : List ℕ} {r : Checked} → CheckPromise p scalars r → CheckOk p scalars
+    → (r .refusal ≡ 0) × (r .yes ≡ true ↔ answerRow p ≡ scalarsIn (p .d) (p .l) scalars)
+check-accepted {p} {scalars} x ok =
+    let z = check-accepts x .1 ok in
+    let said = x .yes-is ∙ refusing-no _ false _ z in
+    let test = sameNumbers-says (answerRow p) (scalarsIn (p .d) (p .l) scalars) in (
+      z,
+      (λ e. test .told (subst T (sym (sym said ∙ e)) tt), λ e. said ∙ sym (lists-same (answerRow p) (scalarsIn (p .d) (p .l) scalars) e)),
+    )
+
+-- .. an entry of 2^l equals none ..
+pub check-full : {p : Plan} {scalars : List ℕ} {r : Checked} → CheckPromise p scalars r → CheckOk p scalars
+    → (j : ℕ) → j < p .d → getD (answerRow p) j 0 ≡ 2 ^ p .l → r .yes ≡ true → ⊥
+check-full {p} x ok j h full said =
+    let same = check-accepted x ok .1 .0 said in
+    omega (arith, ok .fit j h, ap (λ ns. getD ns j 0) same)
+
+-- .. and on refusal it says no.
+pub check-refused : {p : Plan} {scalars : List ℕ} {r : Checked} → CheckPromise p scalars r → (r .refusal ≡ 0 → ⊥) → r .yes ≡ false
+check-refused x n = x .yes-is ∙ refusing-yes _ false _ n
 
 -- ---- what was encoded
 

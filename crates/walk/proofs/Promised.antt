@@ -2,6 +2,7 @@
 -- Assumes nothing.
 use Prim.Native.Nat.{ℕ, zero, suc, _-_, _*_, _^_, _≤_, _<_}
 use mathlib.Core.Path.{_≡_, sym, ap, subst, _∙_}
+use mathlib.Core.Logic.{_↔_}
 use mathlib.Core.List.{List}
 use native.Mathlib.Omega.{arith}
 use lib.IntN.{pos}
@@ -30,7 +31,11 @@ use Rattle.walk.proofs.Unique.{same-walk}
 -- ---- step
 
 module _ (w : Walk) (bits : ℕ) (r : Stepped) (promised : StepPromise w bits r) where
-  -- Where step's questions are answered, the refusal is 0 and the state is the next one ..
+  -- Step's refusal is 0 exactly where the state and the number are what it asks ..
+  pub step-accepts : r .refusal ≡ 0 ↔ StepOk (walkState w) bits
+  step-accepts = subst (λ n. n ≡ 0 ↔ StepOk (walkState w) bits) (sym (promised .refusal)) (step-none (walkState w) bits)
+
+  -- .. then the refusal is 0 and the state is the next one ..
   pub step-accepted : StepOk (walkState w) bits → (r .refusal ≡ 0) × (walkState (r .walk) ≡ stepWalk (walkState w) bits)
   step-accepted ok =
       let none : r .refusal ≡ 0 = promised .refusal ∙ step-none (walkState w) bits .1 ok in
@@ -94,7 +99,11 @@ module _ (p : Plan) (ok : Accepted p) where
 -- ---- trace
 
 module _ (p : Plan) (before : List ℕ) (r : TraceAnswer) (after : List ℕ) (promised : TracePromise p before r after) where
-  -- Where trace's questions are answered, the refusal is 0, and every entry is written ..
+  -- Trace's refusal is 0 exactly where the plan and the buffers are what it asks ..
+  pub trace-accepts : r .refusal ≡ 0 ↔ TraceOk p before
+  trace-accepts = subst (λ n. n ≡ 0 ↔ TraceOk p before) (sym (promised .refusal)) (trace-none p before)
+
+  -- .. then the refusal is 0, and every entry is written ..
   pub trace-accepted : TraceOk p before → (r .refusal ≡ 0) × (after ≡ traceBytes (entriesIn p))
   trace-accepted ok =
       let none : r .refusal ≡ 0 = promised .refusal ∙ trace-none p before .1 ok in

@@ -8,7 +8,7 @@ use Rattle.ladder.specs.Plan.{Plan, planLent}
 use Rattle.ladder.specs.Refusals.{unless, scalarsIn}
 use Rattle.ladder.proofs.Operations.{PlanOk}
 use Rattle.refuse.specs.Inner.{lentRefusal, sized}
-use Rattle.decode.proofs.Decoded.{early, early-is, early-none, check-refused, check-too-large, check-accepted, checkable}
+use Rattle.decode.proofs.Decoded.{early, early-is, early-none, keeps-check-refused, keeps-check-large, keeps-check, checkable}
 use borrow.Author.Needs.{needs}
 use Rattle.decode.proofs.calls.check.Statement.{statement}
 use Rattle.decode.proofs.calls.check.Tie as tie
@@ -44,7 +44,7 @@ passed c z = early-none (lent c) (entry c .args .scalars .now) (sym (worked c) �
 returns : tie.Need-returns
 returns c =
     let judged = c .before in
-    check-refused (lent judged) (entry judged .args .scalars .now) (judged .lent-plan .result) (worked judged) (c .if1 .taken)
+    keeps-check-refused (lent judged) (entry judged .args .scalars .now) (judged .lent-plan .result) (worked judged) (c .if1 .taken)
 
 scalar-requires : tie.Need-scalar-requires
 unfolding scalarsLength
@@ -63,7 +63,7 @@ unfolding scalarsIn
 returns-2 c =
     let clear = c .before .before in
     let judged = clear .before in
-    check-too-large (lent judged) (entry judged .args .scalars .now) (c .before .scalar .result) (sym (worked judged) ∙ clear .if1 .left)
+    keeps-check-large (lent judged) (entry judged .args .scalars .now) (c .before .scalar .result) (sym (worked judged) ∙ clear .if1 .left)
     (c .before .scalar .ensures) (c .if2 .taken)
 
 start-walk-requires : tie.Need-start-walk-requires
@@ -91,7 +91,7 @@ returns-3 c =
     let late = c .before .before in
     let clear = late .before .before in
     let judged = clear .before in
-    check-accepted (lent judged) (entry judged .args .scalars .now) _ _ (sym (worked judged) ∙ clear .if1 .left)
+    keeps-check (lent judged) (entry judged .args .scalars .now) _ _ (sym (worked judged) ∙ clear .if1 .left)
     (sym (late .before .scalar .ensures) ∙ late .if2 .left) (c .before .start-walk .ensures) (c .row-is .ensures)
 
 pub check-spec : {M : Type 1} → statement M

@@ -9,7 +9,7 @@ use Rattle.ladder.specs.Refusals.{unless}
 use Rattle.ladder.proofs.Operations.{decode-none}
 use Rattle.ladder.specs.Plan.{planLent}
 use Rattle.refuse.specs.Inner.{lentRefusal, sized}
-use Rattle.decode.proofs.Decoded.{decode-refusal-is, decode-refused, decode-accepted, at-start, started-d, row-decoded}
+use Rattle.decode.proofs.Decoded.{decode-refusal-is, keeps-decode-refused, keeps-decode, at-start, started-d, row-decoded}
 use borrow.Author.Needs.{needs}
 use Rattle.decode.proofs.calls.decode.Statement.{statement}
 use Rattle.decode.proofs.calls.decode.Tie as tie
@@ -36,7 +36,7 @@ returns c =
     let a = c .before .before .before .before .before .before .before .args in
     let p = planLent (a .d) (a .l) (a .start .now) (a .bits .now) (a .row) in
     let e = c .before .lent-plan .ensures ∙ ap (lentRefusal p) (judged (c .before)) ∙ decode-refusal-is p (a .values .now) in
-    decode-refused p (a .values .now) (c .before .lent-plan .result) e (c .if1 .taken)
+    keeps-decode-refused p (a .values .now) (c .before .lent-plan .result) e (c .if1 .taken)
 
 start-walk-requires : tie.Need-start-walk-requires
 unfolding startLength
@@ -73,7 +73,7 @@ returns-2 c =
     let e = c .before .before .before .before .before .before .lent-plan .ensures ∙ ap (lentRefusal p) (judged (c .before .before .before .before .before .before)) ∙ decode-refusal-is p (a .values .now) in
     let z = c .before .before .before .before .before .if1 .left in
     let ok = decode-none p (a .values .now) .0 (sym e ∙ z) in
-    decode-accepted p (a .values .now) _ (sym z ∙ e)
+    keeps-decode p (a .values .now) _ (sym z ∙ e)
     (c .before .before .answer-values .ensures ∙ row-decoded p (ok .plan .plan) _ (c .before .before .before .before .start-walk .ensures))
 
 pub decode-spec : {M : Type 1} → statement M
