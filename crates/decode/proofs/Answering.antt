@@ -11,7 +11,8 @@ use lib.ListN.{length, getD, take, drop, replicate, length-replicate, take-appen
 use lib.Seq.{take-take, getD-take}
 use Rattle.ladder.specs.Lists.{tabulate, count}
 use Rattle.ladder.specs.Matrix.{Arrangement, orderAfter, signsAfter}
-use Rattle.ladder.specs.Numbers.{numbersOf, wordsOfAll, valueWords}
+use Rattle.ladder.specs.Numbers.{numbersOf, wordsOfAll, scalarWords, valueWords}
+use Rattle.ladder.specs.Refusals.{sameNumbers}
 use Rattle.ladder.specs.Walk.{Walk, walkOf, orderOf}
 use Rattle.ladder.specs.Inner.Decoding.{digit, walked, walkedEntry}
 use Rattle.ladder.proofs.Lists.{getD-map, length-tabulate, getD-tabulate, tabulate-same, count-append}
@@ -20,7 +21,7 @@ use Rattle.ladder.proofs.Tests.{count-suc}
 use Rattle.ladder.proofs.Walk.{order-of-walk, length-orderAfter, length-signsAfter}
 use Rattle.walk.specs.Inner.Ready.{Ready, Columns, Units}
 use Rattle.walk.specs.Inner.ReadBits.{bitsAt}
-use Rattle.decode.specs.Inner.{Lowered, Raisable, raised, walkedRow, Checkable}
+use Rattle.decode.specs.Inner.{Lowered, Raisable, raised, walkedRow, Checkable, rowSame}
 use Rattle.decode.proofs.Lowering.{length-bitsAt}
 use Rattle.decode.proofs.Words.{digit-small}
 
@@ -121,9 +122,9 @@ module _ {w : Walk} {l : ℕ} {bytes : List ℕ} {last : Walk} {values : List �
   number-is : (j : ℕ) → j < w .d → getD (numbersOf (w .d) (valueWords l) values) j 0 ≡ N j
   number-is j h = ap (λ ns. getD ns j 0) numbers ∙ getD-tabulate (w .d) N j 0 h
 
-  pub raisable : l ≤ 576 → Raisable (w .d) (valueWords l) (last .signs) above values
+  raisable-words : l ≤ 576 → Raisable (w .d) (valueWords l) (last .signs) above values
   unfolding valueWords
-  raisable high = record {
+  raisable-words high = record {
     dHigh = ready .high;
     kLow = omega arith;
     kHigh = omega arith;
@@ -137,9 +138,9 @@ module _ {w : Walk} {l : ℕ} {bytes : List ℕ} {last : Walk} {values : List �
         (value-fits l (N j + 1) (omega (arith, walked-below (w .d) (orderOf w) (bitsAt (w .d) bytes) l j)));
   }
 
-  pub raised-row : raised (w .d) (valueWords l) (last .signs) above values ≡ walkedRow w l bytes row
+  raised-words : raised (w .d) (valueWords l) (last .signs) above values ≡ walkedRow w l bytes row
   unfolding raised walkedRow walkedEntry
-  raised-row =
+  raised-words =
       tabulate-same (w .d)
       (λ j. getD (numbersOf (w .d) (valueWords l) values) j 0 + (digit (getD (last .signs) j (pos 0)) + getD above j 0) % 2)
       (λ j. N j + (N j + count j (take row (orderAfter (orderOf w) (bitsAt (w .d) bytes) l))) % 2)
@@ -149,12 +150,27 @@ module _ {w : Walk} {l : ℕ} {bytes : List ℕ} {last : Walk} {values : List �
       (ap digit (sign-is j h) ∙ sym (walked-last (w .d) (orderOf w) (bitsAt (w .d) bytes) l j low)) (above-is j h)
       ∙ mod-add-mod (N j) 2 (count j (take row (orderAfter (orderOf w) (bitsAt (w .d) bytes) l)))))
 
--- ---- the scratch of check
+  -- The lower numbers, k words each, can be raised, and are the row then.
+  module _ (k : ℕ) (words : k ≡ valueWords l) where
+    pub raisable : l ≤ 576 → Raisable (w .d) k (last .signs) above values
+    raisable high = subst (λ n. Raisable (w .d) n (last .signs) above values) (sym words) (raisable-words high)
+
+    pub raised-row : wordsOfAll k (raised (w .d) k (last .signs) above values) ≡ wordsOfAll (valueWords l) (walkedRow w l bytes row)
+    raised-row = rw words (ap (wordsOfAll (valueWords l)) raised-words)
+
+-- ---- comparing
+
+-- Values that hold the row, k words each, hold the scalars, n words each, exactly where the row does.
+pub same-row : (w : Walk) (l : ℕ) (bytes : List ℕ) (row : ℕ) (scalars values : List ℕ) (k n : ℕ) → k ≡ valueWords l → n ≡ scalarWords l
+    → values ≡ wordsOfAll (valueWords l) (walkedRow w l bytes row)
+    → sameNumbers (numbersOf (w .d) k values) (numbersOf (w .d) n scalars) ≡ rowSame w l bytes row scalars
+unfolding rowSame
+same-row w l bytes row scalars values k n words own held = rw (words, own, held)
 
 -- Eight values of ten words are enough.
-pub scratch-room : {w : Walk} {l : ℕ} {bytes : List ℕ} {row : ℕ} {scalars : List ℕ} → Checkable w l bytes row scalars → w .d * (l / 64 + 1) ≤ 80
+pub scratch-room : {w : Walk} {l : ℕ} {bytes : List ℕ} {row : ℕ} {scalars : List ℕ} → Checkable w l bytes row scalars → w .d * valueWords l ≤ 80
 unfolding valueWords
 scratch-room {w} {l} p =
-    let a = p .begun (replicate (w .d * (l / 64 + 1)) 0) (length-replicate (w .d * (l / 64 + 1)) zero) in
-    let k : l / 64 + 1 ≤ 10 = omega (arith, a .lHigh) in
+    let a = p .begun (replicate (w .d * valueWords l) 0) (length-replicate (w .d * valueWords l) zero) in
+    let k : valueWords l ≤ 10 = omega (arith, a .lHigh) in
     mul-le-mul (a .ready .high) k

@@ -30,13 +30,6 @@ use Rattle.refuse.proofs.Laws.{lent-third}
 use Rattle.decode.specs.Promise.{DecodePromise, CheckPromise}
 use Rattle.decode.specs.Inner.{AtStart, walkedRow, rowSame, Checkable}
 
--- ---- the refusal
-
-pub decode-refusal-is : (p : Plan) (values : List ℕ)
-    → lentRefusal p (unless (eqb (length values) (sized (p .d) (p .l) (valuesLength (p .d) (p .l)))) 3) ≡ decodeRefusal p values
-unfolding decodeRefusal shape lentRefusal
-decode-refusal-is p values = lent-third p (length values) (valuesLength (p .d) (p .l))
-
 -- ---- the walk from a plan's start
 
 abbrev startOf : Plan → Walk
@@ -89,35 +82,7 @@ pub started-d : (d : ℕ) (start : List ℕ) (w : Walk) → w ≡ started d star
 unfolding started
 started-d d start w e = ap (λ v. v .d) e
 
--- ---- the promise
-
-pub keeps-decode-refused : (p : Plan) (values : List ℕ) (r : ℕ) → r ≡ decodeRefusal p values → (r ≡ 0 → ⊥) → DecodePromise p values r values
-keeps-decode-refused p values r e n = record { refusal-is = e; values-are = sym (refusing-yes r values (valuesIn p) n) }
-
-pub keeps-decode : (p : Plan) (values after : List ℕ) → 0 ≡ decodeRefusal p values → after ≡ valuesIn p → DecodePromise p values 0 after
-keeps-decode p values after e f = record { refusal-is = e; values-are = f ∙ sym (refusing-no 0 values (valuesIn p) refl) }
-
--- ---- check
-
--- What is refused before the scalars are looked at.
-pub early : Plan → List ℕ → ℕ
-early p scalars = lentRefusal p (shape scalars (scalarsLength (p .d) (p .l)))
-
-pub early-is : (p : Plan) (scalars : List ℕ)
-    → lentRefusal p (unless (eqb (length scalars) (sized (p .d) (p .l) (scalarsLength (p .d) (p .l)))) 3) ≡ early p scalars
-unfolding early shape
-early-is p scalars = lent-third p (length scalars) (scalarsLength (p .d) (p .l))
-
-check-parts : (p : Plan) (scalars : List ℕ) → checkRefusal p scalars ≡ early p scalars then scalar (p .l) (scalarsIn (p .d) (p .l) scalars)
-unfolding checkRefusal early lentRefusal
-check-parts p scalars = refl
-
--- Nothing is refused before: the plan is accepted, and the scalars have their length.
-pub early-none : (p : Plan) (scalars : List ℕ) → early p scalars ≡ 0 → PlanOk p × (length scalars ≡ scalarsLength (p .d) (p .l))
-unfolding early lentRefusal
-early-none p scalars e = lent-none p (shape-none scalars (scalarsLength (p .d) (p .l))) .0 e
-
--- The row can be compared with the scalars.
+-- The row can be compared with the scalars ..
 pub checkable : (p : Plan) (scalars : List ℕ) → PlanOk p → length scalars ≡ scalarsLength (p .d) (p .l) → (w : Walk) → w ≡ started (p .d) (p .start)
     → Checkable w (p .l) (p .bits) (p .answer - 1) scalars
 unfolding scalarsLength valuesLength
@@ -129,32 +94,11 @@ checkable p scalars ok long w e =
       long = long ∙ ap (λ n. n * scalarWords (p .l)) (sym same);
     }
 
-pub keeps-check-refused : (p : Plan) (scalars : List ℕ) (r : ℕ) → r ≡ early p scalars → (r ≡ 0 → ⊥)
-    → CheckPromise p scalars (record { refusal = r; yes = false })
-keeps-check-refused p scalars r e n =
-    let same : r ≡ checkRefusal p scalars =
-    e ∙ sym (check-parts p scalars ∙ then-first (early p scalars) _ (λ z. n (e ∙ z))) in
-    record { refusal-is = same; yes-is = sym (refusing-yes r false _ n) }
-
-pub keeps-check-large : (p : Plan) (scalars : List ℕ) (r : ℕ) → early p scalars ≡ 0 → r ≡ scalar (p .l) (scalarsIn (p .d) (p .l) scalars) → (r ≡ 0 → ⊥)
-    → CheckPromise p scalars (record { refusal = r; yes = false })
-keeps-check-large p scalars r z e n = record {
-  refusal-is = e ∙ sym (check-parts p scalars ∙ then-next (early p scalars) _ z);
-  yes-is = sym (refusing-yes r false _ n);
-}
-
-pub keeps-check : (p : Plan) (scalars : List ℕ) (w : Walk) (said : Bool) → early p scalars ≡ 0
-    → scalar (p .l) (scalarsIn (p .d) (p .l) scalars) ≡ 0 → w ≡ started (p .d) (p .start)
-    → said ≡ rowSame w (p .l) (p .bits) (p .answer - 1) scalars → CheckPromise p scalars (record { refusal = 0; yes = said })
+-- .. and what comparing says is whether the answer row is the scalars.
+pub row-says : (p : Plan) (scalars : List ℕ) → Accepted p → (w : Walk) → w ≡ started (p .d) (p .start)
+    → rowSame w (p .l) (p .bits) (p .answer - 1) scalars ≡ sameNumbers (answerRow p) (scalarsIn (p .d) (p .l) scalars)
 unfolding rowSame scalarsIn
-keeps-check p scalars w said z f e y =
-    let ok = early-none p scalars z .0 .plan in
-    record {
-      refusal-is = sym (check-parts p scalars ∙ then-next (early p scalars) _ z ∙ f);
-      yes-is =
-          y
-          ∙ ap₂ (λ n v. sameNumbers (numbersOf n (valueWords (p .l)) v) (numbersOf n (scalarWords (p .l)) scalars))
-          (started-d (p .d) (p .start) w e) (row-decoded p ok w e)
-          ∙ ap (λ v. sameNumbers v (numbersOf (p .d) (scalarWords (p .l)) scalars)) (decode-words p ok)
-          ∙ sym (refusing-no 0 false _ refl);
-    }
+row-says p scalars ok w e =
+    ap₂ (λ n v. sameNumbers (numbersOf n (valueWords (p .l)) v) (numbersOf n (scalarWords (p .l)) scalars))
+    (started-d (p .d) (p .start) w e) (row-decoded p ok w e)
+    ∙ ap (λ v. sameNumbers v (numbersOf (p .d) (scalarWords (p .l)) scalars)) (decode-words p ok)

@@ -4,6 +4,7 @@ pub mod Lowering
 pub mod Raising
 pub mod Answering
 pub mod Decoded
+pub mod Judged
 pub mod Equality
 pub mod Unique
 pub mod Promised

@@ -30,94 +30,94 @@ use Rattle.decode.proofs.Equality.{lists-same}
 
 -- ---- refused or not
 
--- Decode's refusal is 0 exactly where the plan and the buffers are what it asks; then the values are the words of the answer row ..
-pub decode-accepts : {p : Plan} {values : List ℕ} {r : ℕ} {after : List ℕ} → DecodePromise p values r after → r ≡ 0 ↔ DecodeOk p values
-decode-accepts {p} {values} x = subst (λ n. n ≡ 0 ↔ DecodeOk p values) (sym (x .refusal-is)) (decode-none p values)
+module _ {p : Plan} {values : List ℕ} {r : ℕ} {valuesAfter : List ℕ} (promise : DecodePromise p values r valuesAfter) where
+  -- Decode's refusal is 0 exactly where the plan and the buffers are what it asks ..
+  pub decode-accepts : r ≡ 0 ↔ DecodeOk p values
+  decode-accepts = subst (λ n. n ≡ 0 ↔ DecodeOk p values) (sym (promise .refusal-is)) (decode-none p values)
 
-pub decode-accepted : {p : Plan} {values : List ℕ} {r : ℕ} {after : List ℕ} → DecodePromise p values r after → DecodeOk p values
-    → (r ≡ 0) × (after ≡ valuesIn p)
-decode-accepted {p} {values} x ok =
-    let z = decode-accepts x .1 ok in
-    (z, x .values-are ∙ refusing-no _ values (valuesIn p) z)
+  -- .. then the refusal is 0 and the values are the words of the answer row ..
+  pub decode-accepted : DecodeOk p values → (r ≡ 0) × (valuesAfter ≡ valuesIn p)
+  decode-accepted ok =
+      let none = decode-accepts .1 ok in
+      (none, promise .values-are ∙ refusing-no _ _ _ none)
 
--- .. and on refusal they are as they came.
-pub decode-refused : {p : Plan} {values : List ℕ} {r : ℕ} {after : List ℕ} → DecodePromise p values r after → (r ≡ 0 → ⊥) → after ≡ values
-decode-refused {p} {values} x n = x .values-are ∙ refusing-yes _ values (valuesIn p) n
+  -- .. and on refusal they are as they came.
+  pub decode-refused : r ≢ 0 → valuesAfter ≡ values
+  decode-refused some = promise .values-are ∙ refusing-yes _ _ _ some
 
--- Check's refusal is 0 exactly where the plan, the scalars and their buffer are what it asks ..
-pub check-accepts : {p : Plan} {scalars : List ℕ} {r : Checked} → CheckPromise p scalars r → r .refusal ≡ 0 ↔ CheckOk p scalars
-check-accepts {p} {scalars} x = subst (λ n. n ≡ 0 ↔ CheckOk p scalars) (sym (x .refusal-is)) (check-none p scalars)
+module _ {p : Plan} {scalars : List ℕ} {r : Checked} (promise : CheckPromise p scalars r) where
+  -- Check's refusal is 0 exactly where the plan, the scalars and the buffers are what it asks ..
+  pub check-accepts : r .refusal ≡ 0 ↔ CheckOk p scalars
+  check-accepts = subst (λ n. n ≡ 0 ↔ CheckOk p scalars) (sym (promise .refusal-is)) (check-none p scalars)
 
--- .. then it says yes exactly where the answer row is the scalars ..
-pub check-accepted : {p : Plan} {scalars : List ℕ} {r : Checked} → CheckPromise p scalars r → CheckOk p scalars
-    → (r .refusal ≡ 0) × (r .yes ≡ true ↔ answerRow p ≡ scalarsIn (p .d) (p .l) scalars)
-check-accepted {p} {scalars} x ok =
-    let z = check-accepts x .1 ok in
-    let said = x .yes-is ∙ refusing-no _ false _ z in
-    let test = sameNumbers-says (answerRow p) (scalarsIn (p .d) (p .l) scalars) in (
-      z,
-      (λ e. test .told (subst T (sym (sym said ∙ e)) tt), λ e. said ∙ sym (lists-same (answerRow p) (scalarsIn (p .d) (p .l) scalars) e)),
-    )
+  -- .. then the refusal is 0 and it says yes exactly where the answer row is the scalars ..
+  pub check-accepted : CheckOk p scalars → (r .refusal ≡ 0) × (r .yes ≡ true ↔ answerRow p ≡ scalarsIn (p .d) (p .l) scalars)
+  check-accepted ok =
+      let none = check-accepts .1 ok in
+      let said = promise .yes-is ∙ refusing-no _ _ _ none in
+      let test = sameNumbers-says (answerRow p) (scalarsIn (p .d) (p .l) scalars) in (
+        none,
+        (λ e. test .told (subst T (sym (sym said ∙ e)) tt), λ e. said ∙ sym (lists-same (answerRow p) (scalarsIn (p .d) (p .l) scalars) e)),
+      )
 
--- .. an entry of 2^l equals none ..
-pub check-full : {p : Plan} {scalars : List ℕ} {r : Checked} → CheckPromise p scalars r → CheckOk p scalars
-    → (j : ℕ) → j < p .d → getD (answerRow p) j 0 ≡ 2 ^ p .l → r .yes ≡ true → ⊥
-check-full {p} x ok j h full said =
-    let same = check-accepted x ok .1 .0 said in
-    omega (arith, ok .fit j h, ap (λ ns. getD ns j 0) same)
+  -- .. an entry of 2^l equals none ..
+  pub check-full : CheckOk p scalars → (j : ℕ) → j < p .d → getD (answerRow p) j 0 ≡ 2 ^ p .l → r .yes ≡ true → ⊥
+  check-full ok j h full said =
+      let same = check-accepted ok .1 .0 said in
+      omega (arith, ok .fit j h, ap (λ ns. getD ns j 0) same)
 
--- .. and on refusal it says no.
-pub check-refused : {p : Plan} {scalars : List ℕ} {r : Checked} → CheckPromise p scalars r → (r .refusal ≡ 0 → ⊥) → r .yes ≡ false
-check-refused x n = x .yes-is ∙ refusing-yes _ false _ n
+  -- .. and on refusal it says no.
+  pub check-refused : r .refusal ≢ 0 → r .yes ≡ false
+  check-refused some = promise .yes-is ∙ refusing-yes _ _ _ some
 
 -- ---- what was encoded
 
-module _ {d l : ℕ} {scalars start bits : List ℕ} {e : Encoded} {startLeft bitsLeft : List ℕ}
-    (promise : EncodePromise d l scalars start bits e startLeft bitsLeft) (ok : EncodeOk d l scalars start bits) where
+module _ {d l : ℕ} {scalars start bits : List ℕ} {e : Encoded} {startAfter bitsAfter : List ℕ}
+    (promise : EncodePromise d l scalars start bits e startAfter bitsAfter) (ok : EncodeOk d l scalars start bits) where
   abbrev plan : Plan
-  plan = written d l e startLeft bitsLeft
+  plan = written d l e startAfter bitsAfter
 
   plan-ok : PlanOk plan
   unfolding planShape
   plan-ok =
       let shapes = accepted-shapes plan (planShape plan) (encode-not-refused promise ok) in
-      let each = then-none (shape startLeft (startLength d)) (shape bitsLeft (bitsLength d l)) shapes in
+      let each = then-none (shape startAfter (startLength d)) (shape bitsAfter (bitsLength d l)) shapes in
       record {
         plan = encode-plan promise ok;
-        start = shape-none startLeft (startLength d) .0 (each .0);
-        bits = shape-none bitsLeft (bitsLength d l) .0 (each .1);
+        start = shape-none startAfter (startLength d) .0 (each .0);
+        bits = shape-none bitsAfter (bitsLength d l) .0 (each .1);
       }
 
   -- Decode of what encode wrote refuses nothing and gives the scalars, as numbers ..
-  pub decode-encoded : (values after : List ℕ) (r : ℕ) → length values ≡ valuesLength d l → DecodePromise plan values r after
-      → (r ≡ 0) × (numbersOf d (valueWords l) after ≡ scalarsIn d l scalars)
-  decode-encoded values after r long x =
+  pub decode-encoded : (values valuesAfter : List ℕ) (r : ℕ) → length values ≡ valuesLength d l → DecodePromise plan values r valuesAfter
+      → (r ≡ 0) × (numbersOf d (valueWords l) valuesAfter ≡ scalarsIn d l scalars)
+  decode-encoded values valuesAfter r long x =
       let got = decode-accepted x (record { plan = plan-ok; valuesLong = long }) in
       (got .0, ap (numbersOf d (valueWords l)) (got .1) ∙ decode-words plan (encode-plan promise ok) ∙ encode-decodes promise ok)
 
   -- .. and as words, whose columns are those of the scalars ..
-  pub decode-encoded-words : (values after : List ℕ) (r : ℕ) → length values ≡ valuesLength d l → DecodePromise plan values r after
-      → after ≡ wordsOfAll (valueWords l) (scalarsIn d l scalars)
+  pub decode-encoded-words : (values valuesAfter : List ℕ) (r : ℕ) → length values ≡ valuesLength d l → DecodePromise plan values r valuesAfter
+      → valuesAfter ≡ wordsOfAll (valueWords l) (scalarsIn d l scalars)
   unfolding valuesIn
-  decode-encoded-words values after r long x =
+  decode-encoded-words values valuesAfter r long x =
       decode-accepted x (record { plan = plan-ok; valuesLong = long }) .1 ∙ ap (wordsOfAll (valueWords l)) (encode-decodes promise ok)
 
-  module _ (words : (i : ℕ) → getD scalars i 0 < 2 ^ 64) (values after : List ℕ) (r : ℕ) (long : length values ≡ valuesLength d l)
-      (decoded : DecodePromise plan values r after) where
+  module _ (words : (i : ℕ) → getD scalars i 0 < 2 ^ 64) (values valuesAfter : List ℕ) (r : ℕ) (long : length values ≡ valuesLength d l)
+      (decoded : DecodePromise plan values r valuesAfter) where
     -- .. the very words of the scalars where 64 does not divide l ..
-    pub decode-encoded-same : l % 64 ≢ 0 → after ≡ scalars
+    pub decode-encoded-same : l % 64 ≢ 0 → valuesAfter ≡ scalars
     unfolding scalarsIn scalarsLength
     decode-encoded-same e =
         let same : valueWords l ≡ scalarWords l = unfold valueWords scalarWords in omega arith in
-        decode-encoded-words values after r long decoded
+        decode-encoded-words values valuesAfter r long decoded
         ∙ ap (λ k. wordsOfAll k (numbersOf d (scalarWords l) scalars)) same
         ∙ wordsOfAll-numbersOf d (scalarWords l) scalars (ok .scalarsLong) words
 
     -- .. and each scalar's words, then a zero word, where it does.
-    pub decode-encoded-full : l % 64 ≡ 0 → after ≡ flatten (tabulate d (λ j. own (scalarWords l) scalars j ++ (0 ∷ [])))
+    pub decode-encoded-full : l % 64 ≡ 0 → valuesAfter ≡ flatten (tabulate d (λ j. own (scalarWords l) scalars j ++ (0 ∷ [])))
     unfolding scalarsIn scalarsLength wordsOfAll numbersOf
     decode-encoded-full e =
-        decode-encoded-words values after r long decoded
+        decode-encoded-words values valuesAfter r long decoded
         ∙ ap flatten (map-tabulate (wordsOf (valueWords l)) d (λ j. numberOf (own (scalarWords l) scalars j)) ∙ tabulate-same d _ _ column)
       where
         column : (j : ℕ) → j < d

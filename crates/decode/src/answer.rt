@@ -3,6 +3,8 @@ use crate::lower::lower_values;
 use crate::rows::columns_above;
 use crate::rows::raise;
 use crate::same::same_values;
+use crate::values::value_words;
+use encode::scalars::scalar_words;
 use walk::state::Walk;
 ghost use Prim.Native.Nat.{_*_, _≤_};
 ghost use mathlib.Core.Path.{_≡_};
@@ -21,7 +23,7 @@ pub fn answer_values(start: Walk, bits: &[u8], l: usize, row: usize, values: &mu
     let order = last.order;
     let signs = last.signs;
     let above = columns_above(order, row);
-    raise(values, d, l / 64 + 1, signs, above);
+    raise(values, d, value_words(l), signs, above);
 }
 
 // Whether that row is the scalars; its words are left in `values`.
@@ -38,7 +40,7 @@ fn row_is_in(
 {
     let d = start.d as usize;
     answer_values(start, bits, l, row, values);
-    same_values(d, l / 64 + 1, (l + 63) / 64, values, scalars)
+    same_values(d, value_words(l), scalar_words(l), values, scalars)
 }
 
 // Whether that row is the scalars. Eight values of ten words are the most there can be.
@@ -47,7 +49,7 @@ pub fn row_is(start: Walk, bits: &[u8], l: usize, row: usize, scalars: &[u64]) -
     ensures { λ r. ⌜ r ≡ rowSame (walkState start) l (now (bits .entry)) row (now (scalars .entry)) ⌝ }
 {
     let d = start.d as usize;
-    let n = d * (l / 64 + 1);
+    let n = d * value_words(l);
     let mut values = [0u64; 80];
     row_is_in(start, bits, l, row, scalars, &mut values[..n])
 }

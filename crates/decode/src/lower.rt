@@ -2,6 +2,7 @@
 use crate::digits::push_digits;
 use crate::values::store_full;
 use crate::values::store_words;
+use crate::values::value_words;
 use walk::advance::advance;
 use walk::bits::step_bits;
 use walk::state::Walk;
@@ -15,7 +16,7 @@ pub fn lower_values(start: Walk, bits: &[u8], l: usize, values: &mut [u64]) -> W
     ensures { λ w. ⌜ Lowered (walkState start) l (now (bits .entry)) (walkState w) (now (values .exit)) ⌝ }
 {
     let d = start.d as usize;
-    let k = l / 64 + 1;
+    let k = value_words(l);
     store_words([0u64; 8], d, k, k - 1, values);
     let mut w = start;
     let mut held = [0u64; 8];

@@ -2,8 +2,15 @@
 ghost use Prim.Native.Nat.{_+_, _*_, _/_, _^_, _≤_, _<_};
 ghost use mathlib.Core.Path.{_≡_};
 ghost use lib.ListN.{length};
-ghost use Rattle.ladder.specs.Numbers.{numberOf, wordsOf};
+ghost use Rattle.ladder.specs.Numbers.{numberOf, wordsOf, valueWords};
 ghost use Rattle.decode.specs.Inner.{stored, heldThen, storedThen};
+
+// The words of one value: floor(l / 64) + 1.
+pub fn value_words(l: usize) -> usize
+    ensures { λ r. ⌜ r ≡ valueWords l ⌝ }
+{
+    l / 64 + 1
+}
 
 // Word w of each value becomes the number held for its column.
 pub fn store_words(held: [u64; 8], d: usize, k: usize, w: usize, values: &mut [u64])

@@ -1,7 +1,7 @@
 -- The promise is kept on refusal and on accepted input. Rests on what an input that is not refused is (`encode-none`).
 -- Assumes nothing.
 use Prim.Native.Nat.{ℕ, suc, _+_, _≤_}
-use mathlib.Core.Path.{_≡_, sym, _∙_}
+use mathlib.Core.Path.{_≡_, sym, ap, _∙_}
 use mathlib.Core.List.{List, map}
 use native.Mathlib.Numerals.{add-one}
 use native.Mathlib.Omega.{arith}
@@ -49,22 +49,24 @@ module _ (d l : ℕ) (scalars start bits : List ℕ) (n : ℕ) (judged : n ≡ e
   -- On refusal: row 0, and both outputs as they came.
   pub kept-refused : (n ≡ 0 → ⊥) → EncodePromise d l scalars start bits (record { refusal = n; row = 0 }) start bits
   kept-refused ne = record {
-    answered = rw (sym judged, refusing-yes n 0 (encode d l (scalarsIn d l scalars) .answer) ne);
-    startWritten = rw (sym judged) (sym (refusing-yes n start _ ne));
-    bitsWritten = rw (sym judged) (sym (refusing-yes n bits _ ne));
+    refusal-is = judged;
+    row-is = sym (refusing-yes n _ _ ne);
+    start-is = sym (refusing-yes n _ _ ne);
+    bits-are = sym (refusing-yes n _ _ ne);
   }
 
   -- Else what was worked out, E being the house order, is the plan of the scalars.
-  pub kept-accepted : n ≡ 0 → (E startLeft bitsLeft : List ℕ) (odd : ℕ) → E ≡ houseOrder d (numbersOf d (scalarWords l) scalars)
-      → startLeft ≡ map suc (encodedStart l (numbersOf d (scalarWords l) scalars) E)
-      → bitsLeft ≡ packBits (joined l (encodedBits l (numbersOf d (scalarWords l) scalars) E))
+  pub kept-accepted : n ≡ 0 → (E startAfter bitsAfter : List ℕ) (odd : ℕ) → E ≡ houseOrder d (numbersOf d (scalarWords l) scalars)
+      → startAfter ≡ map suc (encodedStart l (numbersOf d (scalarWords l) scalars) E)
+      → bitsAfter ≡ packBits (joined l (encodedBits l (numbersOf d (scalarWords l) scalars) E))
       → odd ≡ odds (numbersOf d (scalarWords l) scalars)
-      → EncodePromise d l scalars start bits (record { refusal = n; row = odd + 1 }) startLeft bitsLeft
+      → EncodePromise d l scalars start bits (record { refusal = n; row = odd + 1 }) startAfter bitsAfter
   unfolding encode encodeWith scalarsIn
-  kept-accepted none E startLeft bitsLeft odd house s b o = record {
-    answered = rw (sym judged, refusing-no n 0 (encode d l (scalarsIn d l scalars) .answer) none, add-one odd, o);
-    startWritten = rw (sym judged, refusing-no n start (encode d l (scalarsIn d l scalars) .start) none) (s ∙ rw house);
-    bitsWritten = rw (sym judged, refusing-no n bits (encode d l (scalarsIn d l scalars) .bits) none) (b ∙ rw house);
+  kept-accepted none E startAfter bitsAfter odd house s b o = record {
+    refusal-is = judged;
+    row-is = add-one odd ∙ ap suc o ∙ sym (refusing-no n _ _ none);
+    start-is = rw (refusing-no n start (encode d l (scalarsIn d l scalars) .start) none) (s ∙ rw house);
+    bits-are = rw (refusing-no n bits (encode d l (scalarsIn d l scalars) .bits) none) (b ∙ rw house);
   }
 
 -- The house order of d scalars is an arrangement.

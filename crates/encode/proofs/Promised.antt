@@ -3,7 +3,7 @@
 -- Assumes nothing.
 use Prim.Native.Nat.{ℕ, _*_, _^_, _<_}
 use mathlib.Core.Path.{_≡_, refl, sym, ap, subst, _∙_}
-use mathlib.Core.Logic.{_↔_}
+use mathlib.Core.Logic.{_≢_, _↔_}
 use mathlib.Core.List.{List, [], _∷_}
 use native.Mathlib.Omega.{arith}
 use lib.ListN.{length, getD}
@@ -42,44 +42,36 @@ scalars-below d l scalars = numbersOf-below d (scalarWords l) scalars
 abbrev pub written : ℕ → ℕ → Encoded → List ℕ → List ℕ → Plan
 written d l r start bits = record { d = d; l = l; start = start; bits = bits; answer = r .row }
 
-module _ {d l : ℕ} {scalars start bits : List ℕ} {r : Encoded} {startLeft bitsLeft : List ℕ}
-    (promise : EncodePromise d l scalars start bits r startLeft bitsLeft) where
-  -- The refusal that is answered is the first that applies.
-  pub encode-refusal : r .refusal ≡ encodeRefusal d l scalars start bits
-  encode-refusal = ap (λ a. a .refusal) (promise .answered)
-
-  -- It is 0 exactly where the input is what encode asks.
+module _ {d l : ℕ} {scalars start bits : List ℕ} {r : Encoded} {startAfter bitsAfter : List ℕ}
+    (promise : EncodePromise d l scalars start bits r startAfter bitsAfter) where
+  -- The refusal is 0 exactly where the input is what encode asks.
   pub encode-accepts : r .refusal ≡ 0 ↔ EncodeOk d l scalars start bits
-  encode-accepts = subst (λ n. n ≡ 0 ↔ EncodeOk d l scalars start bits) (sym encode-refusal) (encode-none d l scalars start bits)
+  encode-accepts = subst (λ n. n ≡ 0 ↔ EncodeOk d l scalars start bits) (sym (promise .refusal-is)) (encode-none d l scalars start bits)
 
   -- On refusal the row is 0, and both outputs are as they came.
-  pub encode-refused : (r .refusal ≡ 0 → ⊥) → (r .row ≡ 0) × (startLeft ≡ start) × (bitsLeft ≡ bits)
-  encode-refused ne =
-      let some : encodeRefusal d l scalars start bits ≡ 0 → ⊥ = λ e. ne (encode-refusal ∙ e) in (
-        ap (λ a. a .row) (promise .answered) ∙ refusing-yes _ 0 _ some,
-        promise .startWritten ∙ refusing-yes _ start _ some,
-        promise .bitsWritten ∙ refusing-yes _ bits _ some,
-      )
+  pub encode-refused : r .refusal ≢ 0 → (r .row ≡ 0) × (startAfter ≡ start) × (bitsAfter ≡ bits)
+  encode-refused some = (
+    promise .row-is ∙ refusing-yes _ _ _ some,
+    promise .start-is ∙ refusing-yes _ _ _ some,
+    promise .bits-are ∙ refusing-yes _ _ _ some,
+  )
 
   module _ (ok : EncodeOk d l scalars start bits) where
-    none : encodeRefusal d l scalars start bits ≡ 0
-    none = encode-none d l scalars start bits .1 ok
-
     -- On accepted input the refusal is 0 ..
     pub encode-accepted : r .refusal ≡ 0
-    encode-accepted = encode-refusal ∙ none
+    encode-accepted = encode-accepts .1 ok
 
     -- .. and what is written is the plan of the scalars.
-    pub encode-writes : written d l r startLeft bitsLeft ≡ encode d l (scalarsIn d l scalars)
+    pub encode-writes : written d l r startAfter bitsAfter ≡ encode d l (scalarsIn d l scalars)
     unfolding encode encodeWith
     encode-writes =
-        let row = ap (λ a. a .row) (promise .answered) ∙ refusing-no _ 0 (encode d l (scalarsIn d l scalars) .answer) none in
-        let order = promise .startWritten ∙ refusing-no _ start (encode d l (scalarsIn d l scalars) .start) none in
-        let bytes = promise .bitsWritten ∙ refusing-no _ bits (encode d l (scalarsIn d l scalars) .bits) none in
+        let row = promise .row-is ∙ refusing-no _ 0 (encode d l (scalarsIn d l scalars) .answer) encode-accepted in
+        let order = promise .start-is ∙ refusing-no _ start (encode d l (scalarsIn d l scalars) .start) encode-accepted in
+        let bytes = promise .bits-are ∙ refusing-no _ bits (encode d l (scalarsIn d l scalars) .bits) encode-accepted in
         rw (row, order, bytes)
 
     -- No call refuses it ..
-    pub encode-not-refused : planRefusal (written d l r startLeft bitsLeft) (planShape (written d l r startLeft bitsLeft)) ≡ 0
+    pub encode-not-refused : planRefusal (written d l r startAfter bitsAfter) (planShape (written d l r startAfter bitsAfter)) ≡ 0
     unfolding encode
     encode-not-refused =
         let wide = scalars-length d l scalars in
@@ -87,11 +79,11 @@ module _ {d l : ℕ} {scalars start bits : List ℕ} {r : Encoded} {startLeft bi
         (encoded-not-refused l (scalarsIn d l scalars) (house-arrangement d (scalarsIn d l scalars) wide) wide
         (ok .dimension .0) (ok .dimension .1) (ok .steps .0) (ok .steps .1))
 
-    pub encode-plan : Accepted (written d l r startLeft bitsLeft)
+    pub encode-plan : Accepted (written d l r startAfter bitsAfter)
     encode-plan = accepted _ _ encode-not-refused
 
     -- .. and its answer row is the scalars.
-    pub encode-decodes : answerRow (written d l r startLeft bitsLeft) ≡ scalarsIn d l scalars
+    pub encode-decodes : answerRow (written d l r startAfter bitsAfter) ≡ scalarsIn d l scalars
     encode-decodes = rw encode-writes (decode-encode d l (scalarsIn d l scalars) (scalars-length d l scalars) (ok .fit))
 
 -- ---- nothing is constant
@@ -104,10 +96,10 @@ given :
     × EncodePromise 2 2 (3 ∷ 3 ∷ []) (0 ∷ 0 ∷ []) (0 ∷ []) (record { refusal = 0; row = 3 }) (2 ∷ 1 ∷ []) (0xc0 ∷ [])
 unfolding tabulate joined odds all numberOf numbersOf byteOf bytesFor packBits scalarWords scalarsLength startLength bitsLength scalarBit xor dealt deal picked passed rearrange orderToGo encodedStart encodedBits encodeWith houseOrder encode _then_ unless refusing within dim len shape scalar scalarsIn encodeRefusal
 given = (
-  record { answered = refl; startWritten = refl; bitsWritten = refl },
-  record { answered = refl; startWritten = refl; bitsWritten = refl },
-  record { answered = refl; startWritten = refl; bitsWritten = refl },
-  record { answered = refl; startWritten = refl; bitsWritten = refl },
+  record { refusal-is = refl; row-is = refl; start-is = refl; bits-are = refl },
+  record { refusal-is = refl; row-is = refl; start-is = refl; bits-are = refl },
+  record { refusal-is = refl; row-is = refl; start-is = refl; bits-are = refl },
+  record { refusal-is = refl; row-is = refl; start-is = refl; bits-are = refl },
 )
 
 -- No one start order meets the promise for 2, 1 and for 3, 3 ..

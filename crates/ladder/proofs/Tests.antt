@@ -86,6 +86,11 @@ unfolding refusing
 refusing-yes zero refused accepted e = absurd (e refl)
 refusing-yes (suc n) refused accepted e = refl
 
+-- What is left by one refusal is left by its equal.
+pub refusing-same : {A : Type 0} {m n : ℕ} {a b : A} (refused accepted : A) → m ≡ n
+    → a ≡ refusing m refused accepted → b ≡ refusing n refused accepted → a ≡ b
+refusing-same refused accepted e x y = x ∙ ap (λ k. refusing k refused accepted) e ∙ sym y
+
 -- ---- what tests say
 
 -- A test passes exactly where P is so.

@@ -2,7 +2,7 @@
 -- Assumes nothing.
 use Prim.Native.Nat.{ℕ, zero, suc, _-_, _*_, _^_, _≤_, _<_}
 use mathlib.Core.Path.{_≡_, sym, ap, subst, _∙_}
-use mathlib.Core.Logic.{_↔_}
+use mathlib.Core.Logic.{_≢_, _↔_}
 use mathlib.Core.List.{List}
 use native.Mathlib.Omega.{arith}
 use lib.IntN.{pos}
@@ -11,7 +11,7 @@ use Rattle.ladder.specs.Matrix.{startSigns, orderAfter, signsAfter}
 use Rattle.ladder.specs.Plan.{Plan, startOrder, stepBits, orderIn, signsIn}
 use Rattle.ladder.specs.Trace.{entriesIn, traceBytes}
 use Rattle.ladder.specs.Walk.{walkOf, stepWalk}
-use Rattle.ladder.specs.Refusals.{walkOrder, stepRefusal, traceRefusal}
+use Rattle.ladder.specs.Refusals.{walkOrder}
 use Rattle.ladder.proofs.Bits.{length-stepBits, stepBits-below}
 use Rattle.ladder.proofs.Walk.{numberOfBits, numberOfBits-below, walkAfter, walk-after, length-signsAfter}
 use Rattle.ladder.proofs.WalkSteps.{walk-in-order}
@@ -30,21 +30,20 @@ use Rattle.walk.proofs.Unique.{same-walk}
 
 -- ---- step
 
-module _ (w : Walk) (bits : ℕ) (r : Stepped) (promised : StepPromise w bits r) where
+module _ {w : Walk} {bits : ℕ} {r : Stepped} (promise : StepPromise w bits r) where
   -- Step's refusal is 0 exactly where the state and the number are what it asks ..
   pub step-accepts : r .refusal ≡ 0 ↔ StepOk (walkState w) bits
-  step-accepts = subst (λ n. n ≡ 0 ↔ StepOk (walkState w) bits) (sym (promised .refusal)) (step-none (walkState w) bits)
+  step-accepts = subst (λ n. n ≡ 0 ↔ StepOk (walkState w) bits) (sym (promise .refusal-is)) (step-none (walkState w) bits)
 
   -- .. then the refusal is 0 and the state is the next one ..
   pub step-accepted : StepOk (walkState w) bits → (r .refusal ≡ 0) × (walkState (r .walk) ≡ stepWalk (walkState w) bits)
   step-accepted ok =
-      let none : r .refusal ≡ 0 = promised .refusal ∙ step-none (walkState w) bits .1 ok in
-      (none, promised .walk ∙ refusing-no _ _ _ none)
+      let none = step-accepts .1 ok in
+      (none, promise .walk-is ∙ refusing-no _ _ _ none)
 
   -- .. and on refusal it is the state that was handed in.
-  pub step-refused : (stepRefusal (walkState w) bits ≡ 0 → ⊥) → r .walk ≡ w
-  step-refused some =
-      same-walk (r .walk) w (promised .walk ∙ refusing-yes _ _ _ (λ e. some (sym (promised .refusal) ∙ e)))
+  pub step-refused : r .refusal ≢ 0 → r .walk ≡ w
+  step-refused some = same-walk (r .walk) w (promise .walk-is ∙ refusing-yes _ _ _ some)
 
 -- ---- a plan's walk
 
@@ -75,13 +74,13 @@ module _ (p : Plan) (ok : Accepted p) where
       → StepPromise w (numberOfBits (stepBits p s)) r
       → (r .refusal ≡ 0) × (walkState (r .walk) ≡ walkOf (p .d) (orderIn p (suc s)) (signsIn p (suc s)))
   unfolding walkOf
-  steps-along s w r e promised =
+  steps-along s w r e promise =
       let asked : StepOk (walkOf (p .d) (orderIn p s) (signsIn p s)) (numberOfBits (stepBits p s)) = record {
         dimension = (ok .dLow, ok .dHigh);
         walk = walkOrder-none _ .0 (walk-ok-in s);
         number = bits-in s;
       } in
-      let done = step-accepted w (numberOfBits (stepBits p s)) r promised (subst (λ v. StepOk v (numberOfBits (stepBits p s))) (sym e) asked) in
+      let done = step-accepted promise (subst (λ v. StepOk v (numberOfBits (stepBits p s))) (sym e) asked) in
       (done .0, done .1 ∙ ap (λ v. stepWalk v (numberOfBits (stepBits p s))) e ∙ step-in s)
 
   -- So the walk of the start order and signs +1, stepped n times with the plan's bits, holds the order and the signs before each
@@ -90,38 +89,37 @@ module _ (p : Plan) (ok : Accepted p) where
       → ((s : ℕ) → s < n → StepPromise (w s) (numberOfBits (stepBits p s)) (r s)) → ((s : ℕ) → s < n → w (suc s) ≡ r s .walk)
       → ((s : ℕ) → s ≤ n → walkState (w s) ≡ walkOf (p .d) (orderIn p s) (signsIn p s)) × ((s : ℕ) → s < n → r s .refusal ≡ 0)
   unfolding orderIn signsIn orderAfter signsAfter
-  walks-along w r n begins promised next = (stands, λ s h. steps-along s (w s) (r s) (stands s (omega arith)) (promised s h) .0)
+  walks-along w r n begins promises next = (stands, λ s h. steps-along s (w s) (r s) (stands s (omega arith)) (promises s h) .0)
     where
       stands : (s : ℕ) → s ≤ n → walkState (w s) ≡ walkOf (p .d) (orderIn p s) (signsIn p s)
       stands zero h = begins
-      stands (suc s) h = ap walkState (next s h) ∙ steps-along s (w s) (r s) (stands s (omega arith)) (promised s h) .1
+      stands (suc s) h = ap walkState (next s h) ∙ steps-along s (w s) (r s) (stands s (omega arith)) (promises s h) .1
 
 -- ---- trace
 
-module _ (p : Plan) (before : List ℕ) (r : TraceAnswer) (after : List ℕ) (promised : TracePromise p before r after) where
+module _ {p : Plan} {trace : List ℕ} {r : TraceAnswer} {traceAfter : List ℕ} (promise : TracePromise p trace r traceAfter) where
   -- Trace's refusal is 0 exactly where the plan and the buffers are what it asks ..
-  pub trace-accepts : r .refusal ≡ 0 ↔ TraceOk p before
-  trace-accepts = subst (λ n. n ≡ 0 ↔ TraceOk p before) (sym (promised .refusal)) (trace-none p before)
+  pub trace-accepts : r .refusal ≡ 0 ↔ TraceOk p trace
+  trace-accepts = subst (λ n. n ≡ 0 ↔ TraceOk p trace) (sym (promise .refusal-is)) (trace-none p trace)
 
   -- .. then the refusal is 0, and every entry is written ..
-  pub trace-accepted : TraceOk p before → (r .refusal ≡ 0) × (after ≡ traceBytes (entriesIn p))
+  pub trace-accepted : TraceOk p trace → (r .refusal ≡ 0) × (traceAfter ≡ traceBytes (entriesIn p))
   trace-accepted ok =
-      let none : r .refusal ≡ 0 = promised .refusal ∙ trace-none p before .1 ok in
-      (none, promised .out ∙ refusing-no _ _ _ none)
+      let none = trace-accepts .1 ok in
+      (none, promise .trace-is ∙ refusing-no _ _ _ none)
 
   -- .. l doublings and l * d additions ..
-  pub trace-counts : TraceOk p before → (r .doublings ≡ p .l) × (r .additions ≡ p .l * p .d)
+  pub trace-counts : TraceOk p trace → (r .doublings ≡ p .l) × (r .additions ≡ p .l * p .d)
   trace-counts ok =
-      let none = trace-accepted ok .0 in (
-        promised .doublings ∙ refusing-no _ _ _ none ∙ trace-doublings p,
-        promised .additions ∙ refusing-no _ _ _ none ∙ trace-additions p,
+      let none = trace-accepts .1 ok in (
+        promise .doublings-are ∙ refusing-no _ _ _ none ∙ trace-doublings p,
+        promise .additions-are ∙ refusing-no _ _ _ none ∙ trace-additions p,
       )
 
   -- .. and on refusal nothing is written or counted.
-  pub trace-refused : (traceRefusal p before ≡ 0 → ⊥) → (after ≡ before) × (r .doublings ≡ 0) × (r .additions ≡ 0)
-  trace-refused some =
-      let refused : r .refusal ≡ 0 → ⊥ = λ e. some (sym (promised .refusal) ∙ e) in (
-        promised .out ∙ refusing-yes _ _ _ refused,
-        promised .doublings ∙ refusing-yes _ _ _ refused,
-        promised .additions ∙ refusing-yes _ _ _ refused,
-      )
+  pub trace-refused : r .refusal ≢ 0 → (r .doublings ≡ 0) × (r .additions ≡ 0) × (traceAfter ≡ trace)
+  trace-refused some = (
+    promise .doublings-are ∙ refusing-yes _ _ _ some,
+    promise .additions-are ∙ refusing-yes _ _ _ some,
+    promise .trace-is ∙ refusing-yes _ _ _ some,
+  )

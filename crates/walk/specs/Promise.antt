@@ -1,4 +1,4 @@
--- What the calls promise, on all input: the refusal of the table, every answer and every output.
+-- What step and trace promise, on all input: the refusal of the table, every answer and every output.
 -- Assumes nothing.
 use Prim.Native.Nat.{ℕ}
 use mathlib.Core.Path.{_≡_}
@@ -14,13 +14,13 @@ use Rattle.walk.specs.WalkState.{walkState}
 
 -- Step, of the walk state w with the bits as one number: the next state; on refusal the state as it was, all 17 fields.
 pub record StepPromise (w : Walk) (bits : ℕ) (r : Stepped) : Type 0 where
-  pub refusal : r .refusal ≡ stepRefusal (walkState w) bits
-  pub walk : walkState (r .walk) ≡ refusing (r .refusal) (walkState w) (stepWalk (walkState w) bits)
+  pub refusal-is : r .refusal ≡ stepRefusal (walkState w) bits
+  pub walk-is : walkState (r .walk) ≡ refusing (r .refusal) (walkState w) (stepWalk (walkState w) bits)
 
--- Trace, of the plan p into a buffer that holds `before` and then `after`: the bytes of its entries, whose vectors are rows of
--- the matrix before each step, and the counts of these entries; on refusal zeros, and the buffer as it was.
-pub record TracePromise (p : Plan) (before : List ℕ) (r : TraceAnswer) (after : List ℕ) : Type 0 where
-  pub refusal : r .refusal ≡ traceRefusal p before
-  pub doublings : r .doublings ≡ refusing (r .refusal) 0 (doublings (entriesIn p))
-  pub additions : r .additions ≡ refusing (r .refusal) 0 (additionCount (entriesIn p))
-  pub out : after ≡ refusing (r .refusal) before (traceBytes (entriesIn p))
+-- Trace, of the plan p, with the trace buffer as it comes and as it is left: the bytes of its entries, whose vectors are rows of the
+-- matrix before each step, and the counts of these entries; on refusal zeros, and the buffer as it came.
+pub record TracePromise (p : Plan) (trace : List ℕ) (r : TraceAnswer) (traceAfter : List ℕ) : Type 0 where
+  pub refusal-is : r .refusal ≡ traceRefusal p trace
+  pub doublings-are : r .doublings ≡ refusing (r .refusal) 0 (doublings (entriesIn p))
+  pub additions-are : r .additions ≡ refusing (r .refusal) 0 (additionCount (entriesIn p))
+  pub trace-is : traceAfter ≡ refusing (r .refusal) trace (traceBytes (entriesIn p))

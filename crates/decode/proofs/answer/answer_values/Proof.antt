@@ -1,8 +1,7 @@
 -- `answer_values` meets its contract: the lower numbers, raised by parity, are the row that the walk yields.
 -- Assumes nothing.
-use mathlib.Core.Path.{ap, _∙_}
+use mathlib.Core.Path.{_∙_}
 use native.Mathlib.Omega.{arith}
-use Rattle.ladder.specs.Numbers.{valueWords, wordsOfAll}
 use Rattle.walk.specs.WalkState.{walkState}
 use Rattle.decode.proofs.Answering.{places-inside, last-columns, raisable, raised-row}
 use borrow.Author.Needs.{needs}
@@ -23,30 +22,28 @@ columns-above-requires c κs =
       λ i h. places-inside (b .args .start .d) (c .before .before .before .before .lower-values .result .order) high (last-columns p) i (omega (arith, b .pre .0)),
     )
 
-add-raise : tie.Need-add-raise
-add-raise c =
-    omega arith
+value-words-requires : tie.Need-value-words-requires
+value-words-requires c κs = search needs
 
 raise-requires : tie.Need-raise-requires
-unfolding walkState valueWords
+unfolding walkState
 raise-requires c κs =
-    let b = c .before .before .before .before .before .before .before .before .before .before in
+    let b = c .before .before .before .before .before .before .before .before .before .before .before in
     let a = b .pre .1 in
-    raisable (c .before .before .before .before .before .before .lower-values .ensures) (a .lLow) (a .ready) (b .args .row) (b .pre .0) (c .before .columns-above .result)
-    (c .before .columns-above .ensures) (a .lHigh)
+    raisable (c .before .before .before .before .before .before .before .lower-values .ensures) (a .lLow) (a .ready) (b .args .row) (b .pre .0) (c .before .before .columns-above .result)
+    (c .before .before .columns-above .ensures) _ (c .value-words .ensures) (a .lHigh)
 
 same-length : tie.Need-same-length
 same-length c = search needs
 
 returns : tie.Need-returns
-unfolding walkState valueWords
+unfolding walkState
 returns c =
-    let b = c .before .before .before .before .before .before .before .before .before .before .before .before .before in
+    let b = c .before .before .before .before .before .before .before .before .before .before .before .before .before .before in
     let a = b .pre .1 in
     c .before .before .raise .ensures
-    ∙ ap (wordsOfAll (valueWords (b .args .l)))
-    (raised-row (c .before .before .before .before .before .before .before .before .before .lower-values .ensures) (a .lLow) (a .ready) (b .args .row) (b .pre .0) (c .before .before .before .before .columns-above .result)
-    (c .before .before .before .before .columns-above .ensures))
+    ∙ raised-row (c .before .before .before .before .before .before .before .before .before .before .lower-values .ensures) (a .lLow) (a .ready) (b .args .row) (b .pre .0) (c .before .before .before .before .before .columns-above .result)
+    (c .before .before .before .before .before .columns-above .ensures) _ (c .before .before .before .value-words .ensures)
 
 pub answer-values-spec : {M : Type 1} → statement M
 answer-values-spec =
@@ -54,7 +51,7 @@ answer-values-spec =
     (tie.spec
     lower-values-requires
     columns-above-requires
-    add-raise
+    value-words-requires
     raise-requires
     same-length
     returns)

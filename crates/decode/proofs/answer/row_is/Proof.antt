@@ -1,38 +1,38 @@
 -- `row_is` meets its contract: the scratch has room for the row.
 -- Assumes nothing.
-use Prim.Native.Nat.{_+_, _*_, _/_}
-use mathlib.Core.Path.{sym}
+use Prim.Native.Nat.{_*_, _≤_}
+use mathlib.Core.Path.{sym, ap, _∙_}
 use native.Mathlib.Omega.{arith}
 use lib.Seq.{length-take-le}
-use Rattle.ladder.specs.Numbers.{valueWords}
 use Rattle.walk.specs.WalkState.{walkState}
 use Rattle.decode.proofs.Answering.{scratch-room}
 use borrow.Author.Needs.{needs}
 use Rattle.decode.proofs.answer.row_is.Statement.{statement}
 use Rattle.decode.proofs.answer.row_is.Tie as tie
 
-add-n : tie.Need-add-n
-add-n c = search needs
+-- The scratch has room for d values of as many words as each has.
+room : (c : tie.After-value-words) → c .before .before .before .args .start .d * c .value-words .result ≤ 80
+unfolding walkState
+room c = rw (c .value-words .ensures) (scratch-room (c .before .before .before .pre))
+
+value-words-requires : tie.Need-value-words-requires
+value-words-requires c κs = search needs
 
 mul-n : tie.Need-mul-n
-unfolding walkState
-mul-n c =
-    omega (arith, scratch-room (c .before .before .pre))
+mul-n c = omega (arith, room c)
 
 array-borrow-prefix-values : tie.Need-array-borrow-prefix-values
-unfolding walkState
-array-borrow-prefix-values c =
-    scratch-room (c .before .before .pre)
+array-borrow-prefix-values c = room c
 
 slice-aggregate-row-is-in : tie.Need-slice-aggregate-row-is-in
-unfolding walkState
-slice-aggregate-row-is-in c =
-    let b = c .before .before .before in sym (length-take-le (b .args .start .d * (b .args .l / 64 + 1)) _ (scratch-room (b .pre)))
+slice-aggregate-row-is-in c = sym (length-take-le _ _ (room (c .before)))
 
 row-is-in-requires : tie.Need-row-is-in-requires
-unfolding walkState valueWords
+unfolding walkState
 row-is-in-requires c κs =
-    let b = c .before .before .before in (b .pre, length-take-le (b .args .start .d * (b .args .l / 64 + 1)) _ (scratch-room (b .pre)))
+    let v = c .before in
+    let b = v .before .before .before in
+    (b .pre, length-take-le _ _ (room v) ∙ ap (λ k. b .args .start .d * k) (v .value-words .ensures))
 
 returns : tie.Need-returns
 returns c = search needs
@@ -41,7 +41,7 @@ pub row-is-spec : {M : Type 1} → statement M
 row-is-spec =
     tie.close
     (tie.spec
-    add-n
+    value-words-requires
     mul-n
     array-borrow-prefix-values
     slice-aggregate-row-is-in

@@ -1,11 +1,11 @@
 -- `row_is_in` meets its contract: the row in words is compared with the scalars.
 -- Assumes nothing.
-use mathlib.Core.Path.{ap, _∙_}
+use mathlib.Core.Path.{sym, ap, _∙_}
 use native.Mathlib.Omega.{arith}
-use Rattle.ladder.specs.Numbers.{numbersOf, valueWords, scalarWords}
-use Rattle.ladder.specs.Refusals.{sameNumbers}
+use Prim.Native.Nat.{_*_}
+use Rattle.ladder.specs.Numbers.{valueWords, scalarWords}
 use Rattle.walk.specs.WalkState.{walkState}
-use Rattle.decode.specs.Inner.{rowSame}
+use Rattle.decode.proofs.Answering.{same-row}
 use borrow.Author.Needs.{needs}
 use Rattle.decode.proofs.answer.row_is_in.Statement.{statement}
 use Rattle.decode.proofs.answer.row_is_in.Tie as tie
@@ -15,39 +15,52 @@ unfolding walkState
 answer-values-requires c κs =
     let b = c .before .before .before .before in (b .pre .0 .inside, b .pre .0 .begun (b .args .values .now) (b .pre .1))
 
-add-same-values : tie.Need-add-same-values
-add-same-values c = search needs
+value-words-requires : tie.Need-value-words-requires
+value-words-requires c κs = search needs
 
-add-same-values-2 : tie.Need-add-same-values-2
+scalar-words-requires : tie.Need-scalar-words-requires
 unfolding walkState
-add-same-values-2 c =
-    let b = c .before .before .before .before .before .before .before in omega (arith, b .pre .0 .begun (b .args .values .now) (b .pre .1) .lHigh)
+scalar-words-requires c κs =
+    let b = c .before .before .before .before .before .before .before .before in b .pre .0 .begun (b .args .values .now) (b .pre .1) .lHigh
 
 same-values-requires : tie.Need-same-values-requires
 unfolding walkState valueWords scalarWords
 same-values-requires c κs =
-    let b = c .before .before .before .before .before .before .before .before in
+    let b = c .before .before .before .before .before .before .before .before .before .before in
     let a = b .pre .0 .begun (b .args .values .now) (b .pre .1) in
-    (a .ready .high, (omega (arith, a .lHigh), (omega arith, (c .before .before .before .answer-values .kept .1 .1 .1 .1 .0 ∙ b .pre .1, b .pre .0 .long))))
+    let k = c .before .before .value-words .ensures in
+    let n = c .before .scalar-words .ensures in (
+      a .ready .high,
+      (
+        omega (arith, k, a .lHigh),
+        (
+          omega (arith, k, n),
+          (
+            c .before .before .before .before .before .answer-values .kept .1 .1 .1 .1 .0 ∙ b .pre .1 ∙ ap (λ m. b .args .start .d * m) (sym k),
+            b .pre .0 .long ∙ ap (λ m. b .args .start .d * m) (sym n),
+          ),
+        ),
+      ),
+    )
 
 same-length : tie.Need-same-length
 same-length c = search needs
 
 returns : tie.Need-returns
-unfolding walkState valueWords scalarWords rowSame
+unfolding walkState
 returns c =
-    let b = c .before .before .before .before .before .before .before .before .before in
+    let b = c .before .before .before .before .before .before .before .before .before .before .before in
     c .same-values .ensures
-    ∙ ap (λ v. sameNumbers (numbersOf (b .args .start .d) (valueWords (b .args .l)) v) (numbersOf (b .args .start .d) (scalarWords (b .args .l)) (b .args .scalars .now)))
-    (c .before .before .before .before .answer-values .ensures)
+    ∙ same-row (walkState (b .args .start)) (b .args .l) (b .args .bits .now) (b .args .row) (b .args .scalars .now) _ _ _
+    (c .before .before .before .value-words .ensures) (c .before .before .scalar-words .ensures) (c .before .before .before .before .before .before .answer-values .ensures)
 
 pub row-is-in-spec : {M : Type 1} → statement M
 row-is-in-spec =
     tie.close
     (tie.spec
     answer-values-requires
-    add-same-values
-    add-same-values-2
+    value-words-requires
+    scalar-words-requires
     same-values-requires
     same-length
     returns)

@@ -1,91 +1,78 @@
--- `decode` meets its promise: the refusal is the table's, and the row that the walk yields is the answer row of the last matrix.
+-- `decode` keeps its promise: a plan that is not refused can be walked (`at-start`), and the row that the walk yields is the answer row
+-- of the last matrix (`row-decoded`).
 -- Assumes nothing.
-use mathlib.Core.Path.{_≡_, sym, ap, _∙_}
+use mathlib.Core.Path.{sym, _∙_}
 use native.Mathlib.Omega.{arith}
-use lib.Dec.{eqb}
-use lib.ListN.{length}
-use Rattle.ladder.specs.Numbers.{startLength, valuesLength}
-use Rattle.ladder.specs.Refusals.{unless}
-use Rattle.ladder.proofs.Operations.{decode-none}
-use Rattle.ladder.specs.Plan.{planLent}
-use Rattle.refuse.specs.Inner.{lentRefusal, sized}
-use Rattle.decode.proofs.Decoded.{decode-refusal-is, keeps-decode-refused, keeps-decode, at-start, started-d, row-decoded}
+use Rattle.ladder.specs.Numbers.{startLength}
+use Rattle.ladder.specs.Plan.{Plan, planLent}
+use Rattle.ladder.proofs.Operations.{DecodeOk, decode-none}
+use Rattle.ladder.proofs.Tests.{refusing-no, refusing-yes}
+use Rattle.decode.proofs.Decoded.{at-start, started-d, row-decoded}
 use borrow.Author.Needs.{needs}
 use Rattle.decode.proofs.calls.decode.Statement.{statement}
 use Rattle.decode.proofs.calls.decode.Tie as tie
 
-values-length-requires : tie.Need-values-length-requires
-values-length-requires c κs = search needs
+-- The function's entry, and the plan that is lent ..
+abbrev entry : tie.After-decode-refusal → tie.Start
+entry c = c .before .before .before .before .before
 
-shape-requires : tie.Need-shape-requires
-shape-requires c κs = search needs
+abbrev lent : tie.After-decode-refusal → Plan
+lent c = let a = entry c .args in planLent (a .d) (a .l) (a .start .now) (a .bits .now) (a .row)
 
-lent-plan-requires : tie.Need-lent-plan-requires
-lent-plan-requires c κs = search needs
+-- .. which is accepted, with every buffer of its length, where nothing is refused.
+asked : (e : tie.Else1) → DecodeOk (lent (e .before)) (entry (e .before) .args .values .now)
+asked e = decode-none (lent (e .before)) (entry (e .before) .args .values .now) .0 (sym (e .before .decode-refusal .ensures) ∙ e .if1 .left)
 
--- What stands at the third buffer's shape.
-judged : (c : tie.After-lent-plan)
-    → c .before .shape .result
-    ≡ unless (eqb (length (c .before .before .before .before .before .before .args .values .now))
-    (sized (c .before .before .before .before .before .before .args .d) (c .before .before .before .before .before .before .args .l)
-    (valuesLength (c .before .before .before .before .before .before .args .d) (c .before .before .before .before .before .before .args .l)))) 3
-judged c = cc
-
-returns : tie.Need-returns
-returns c =
-    let a = c .before .before .before .before .before .before .before .args in
-    let p = planLent (a .d) (a .l) (a .start .now) (a .bits .now) (a .row) in
-    let e = c .before .lent-plan .ensures ∙ ap (lentRefusal p) (judged (c .before)) ∙ decode-refusal-is p (a .values .now) in
-    keeps-decode-refused p (a .values .now) (c .before .lent-plan .result) e (c .if1 .taken)
-
-start-walk-requires : tie.Need-start-walk-requires
-unfolding startLength
-start-walk-requires c κs =
-    let a = c .before .before .before .before .before .before .before .args in
-    let p = planLent (a .d) (a .l) (a .start .now) (a .bits .now) (a .row) in
-    let e = c .before .lent-plan .ensures ∙ ap (lentRefusal p) (judged (c .before)) ∙ decode-refusal-is p (a .values .now) in
-    let ok = decode-none p (a .values .now) .0 (sym e ∙ c .if1 .left) in
-    (ok .plan .plan .dHigh, ok .plan .start)
-
-sub-answer-values : tie.Need-sub-answer-values
-sub-answer-values c =
-    let a = c .before .before .before .before .before .before .before .before .args in
-    let p = planLent (a .d) (a .l) (a .start .now) (a .bits .now) (a .row) in
-    let e = c .before .before .lent-plan .ensures ∙ ap (lentRefusal p) (judged (c .before .before)) ∙ decode-refusal-is p (a .values .now) in
-    decode-none p (a .values .now) .0 (sym e ∙ c .before .if1 .left) .plan .plan .answerLow
-
-answer-values-requires : tie.Need-answer-values-requires
-answer-values-requires c κs =
-    let a = c .before .before .before .before .before .before .before .before .before .args in
-    let p = planLent (a .d) (a .l) (a .start .now) (a .bits .now) (a .row) in
-    let e = c .before .before .before .lent-plan .ensures ∙ ap (lentRefusal p) (judged (c .before .before .before)) ∙ decode-refusal-is p (a .values .now) in
-    let ok = decode-none p (a .values .now) .0 (sym e ∙ c .before .before .if1 .left) in
-    let w = c .before .start-walk .ensures in
-    (omega (arith, started-d (a .d) (a .start .now) _ w, ok .plan .plan .answerHigh), at-start p (a .values .now) (ok .plan) (ok .valuesLong) _ w)
+decode-refusal-requires : tie.Need-decode-refusal-requires
+decode-refusal-requires c κs = search needs
 
 same-length : tie.Need-same-length
 same-length c = search needs
 
+returns : tie.Need-returns
+returns c = record {
+  refusal-is = c .before .decode-refusal .ensures;
+  values-are = sym (refusing-yes _ _ _ (c .if1 .taken));
+}
+
+start-walk-requires : tie.Need-start-walk-requires
+unfolding startLength
+start-walk-requires c κs = let ok = asked c in (ok .plan .plan .dHigh, ok .plan .start)
+
+sub-answer-values : tie.Need-sub-answer-values
+sub-answer-values c = asked (c .before) .plan .plan .answerLow
+
+answer-values-requires : tie.Need-answer-values-requires
+answer-values-requires c κs =
+    let e = c .before .before in
+    let ok = asked e in
+    let w = c .before .start-walk .ensures in
+    (omega (arith, started-d _ _ _ w, ok .plan .plan .answerHigh), at-start (lent (e .before)) _ (ok .plan) (ok .valuesLong) _ w)
+
+same-length-2 : tie.Need-same-length-2
+same-length-2 c = search needs
+
 returns-2 : tie.Need-returns-2
 returns-2 c =
-    let a = c .before .before .before .before .before .before .before .before .before .before .before .before .args in
-    let p = planLent (a .d) (a .l) (a .start .now) (a .bits .now) (a .row) in
-    let e = c .before .before .before .before .before .before .lent-plan .ensures ∙ ap (lentRefusal p) (judged (c .before .before .before .before .before .before)) ∙ decode-refusal-is p (a .values .now) in
-    let z = c .before .before .before .before .before .if1 .left in
-    let ok = decode-none p (a .values .now) .0 (sym e ∙ z) in
-    keeps-decode p (a .values .now) _ (sym z ∙ e)
-    (c .before .before .answer-values .ensures ∙ row-decoded p (ok .plan .plan) _ (c .before .before .before .before .start-walk .ensures))
+    let s = c .before .before .before .before in
+    let e = s .before in
+    record {
+      refusal-is = e .before .decode-refusal .ensures;
+      values-are =
+          c .before .before .answer-values .ensures
+          ∙ row-decoded (lent (e .before)) (asked e .plan .plan) _ (s .start-walk .ensures)
+          ∙ sym (refusing-no _ _ _ (e .if1 .left));
+    }
 
 pub decode-spec : {M : Type 1} → statement M
 decode-spec =
     tie.close
     (tie.spec
-    values-length-requires
-    shape-requires
-    lent-plan-requires
+    decode-refusal-requires
+    same-length
     returns
     start-walk-requires
     sub-answer-values
     answer-values-requires
-    same-length
+    same-length-2
     returns-2)

@@ -40,10 +40,10 @@ returns : tie.Need-returns
 returns c =
     let no = c .if1 .taken in
     record {
-      refusal = c .before .trace-refusal .ensures;
-      doublings = sym (refusing-yes _ _ _ no);
-      additions = sym (refusing-yes _ _ _ no);
-      out = sym (refusing-yes _ _ _ no);
+      refusal-is = c .before .trace-refusal .ensures;
+      doublings-are = sym (refusing-yes _ _ _ no);
+      additions-are = sym (refusing-yes _ _ _ no);
+      trace-is = sym (refusing-yes _ _ _ no);
     }
 
 start-walk-requires : tie.Need-start-walk-requires
@@ -77,10 +77,10 @@ returns-2 c =
     (c .before .before .trace-steps .ensures)) in
     let yes = e .if1 .left in
     record {
-      refusal = e .before .trace-refusal .ensures;
-      doublings = t .1 ∙ sym (refusing-no _ _ _ yes);
-      additions = t .2 ∙ sym (refusing-no _ _ _ yes);
-      out = t .0 ∙ sym (refusing-no _ _ _ yes);
+      refusal-is = e .before .trace-refusal .ensures;
+      doublings-are = t .1 ∙ sym (refusing-no _ _ _ yes);
+      additions-are = t .2 ∙ sym (refusing-no _ _ _ yes);
+      trace-is = t .0 ∙ sym (refusing-no _ _ _ yes);
     }
 
 pub trace-spec : {M : Type 1} → statement M

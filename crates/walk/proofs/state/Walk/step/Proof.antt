@@ -14,8 +14,8 @@ step-refusal-requires c κs = search needs
 
 returns : tie.Need-returns
 returns c = record {
-  refusal = c .before .step-refusal .ensures;
-  walk = sym (refusing-yes _ _ _ (c .if1 .taken));
+  refusal-is = c .before .step-refusal .ensures;
+  walk-is = sym (refusing-yes _ _ _ (c .if1 .taken));
 }
 
 advance-requires : tie.Need-advance-requires
@@ -26,8 +26,8 @@ advance-requires c κs =
 
 returns-2 : tie.Need-returns-2
 returns-2 c = record {
-  refusal = c .before .before .step-refusal .ensures;
-  walk = c .advance .ensures ∙ sym (refusing-no _ _ _ (c .before .if1 .left));
+  refusal-is = c .before .before .step-refusal .ensures;
+  walk-is = c .advance .ensures ∙ sym (refusing-no _ _ _ (c .before .if1 .left));
 }
 
 pub step-spec : {M : Type 1} → statement M
