@@ -10,8 +10,8 @@ use lib.IntN.{pos}
 use lib.ListN.{length, getD, take, drop, replicate, length-replicate, take-append-drop, List·getD-append, List·getD-eq-default}
 use lib.Seq.{take-take, getD-take}
 use Rattle.ladder.specs.Lists.{tabulate, count}
-use Rattle.ladder.specs.Matrix.{Arrangement, orderAfter, signsAfter}
-use Rattle.ladder.specs.Numbers.{numbersOf, wordsOfAll, scalarWords, valueWords}
+use Rattle.ladder.specs.Matrix.{Arrangement, orderAfter, signsAfter, Units}
+use Rattle.ladder.specs.Numbers.{numbersOf, wordsOfAll, scalarWords, valueWords, bitsAt}
 use Rattle.ladder.specs.Refusals.{sameNumbers}
 use Rattle.ladder.specs.Walk.{Walk, walkOf, orderOf}
 use Rattle.ladder.specs.Inner.Decoding.{digit, walked, walkedEntry}
@@ -19,8 +19,7 @@ use Rattle.ladder.proofs.Lists.{getD-map, length-tabulate, getD-tabulate, tabul
 use Rattle.ladder.proofs.Numbers.{numbersOf-wordsOfAll, value-fits, length-wordsOfAll}
 use Rattle.ladder.proofs.Tests.{count-suc}
 use Rattle.ladder.proofs.Walk.{order-of-walk, length-orderAfter, length-signsAfter}
-use Rattle.walk.specs.Inner.Ready.{Ready, Columns, Units}
-use Rattle.walk.specs.Inner.ReadBits.{bitsAt}
+use Rattle.walk.specs.Inner.Ready.{Ready, Columns}
 use Rattle.decode.specs.Inner.{Lowered, Raisable, raised, walkedRow, Checkable, rowSame}
 use Rattle.decode.proofs.Lowering.{length-bitsAt}
 use Rattle.decode.proofs.Words.{digit-small}

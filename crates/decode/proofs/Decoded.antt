@@ -10,7 +10,7 @@ use lib.Dec.{eqb}
 use lib.ListN.{length, getD}
 use Rattle.ladder.specs.Lists.{tabulate}
 use Rattle.ladder.specs.Matrix.{startSigns, orderAfter}
-use Rattle.ladder.specs.Numbers.{numbersOf, scalarWords, scalarsLength, valuesLength, valueWords, wordsOfAll}
+use Rattle.ladder.specs.Numbers.{numbersOf, scalarWords, scalarsLength, valuesLength, valueWords, wordsOfAll, bitsAt}
 use Rattle.ladder.specs.Plan.{Plan, startOrder, stepBits, orderIn, endOrder, answerRow, valuesIn}
 use Rattle.ladder.specs.Refusals.{_then_, unless, shape, scalar, scalarsIn, sameNumbers, decodeRefusal, checkRefusal}
 use Rattle.ladder.specs.Walk.{Walk, walkOf, orderOf}
@@ -22,7 +22,6 @@ use Rattle.ladder.proofs.Operations.{PlanOk, lent-none}
 use Rattle.ladder.proofs.Walk.{order-of-walk}
 use Rattle.ladder.proofs.Demand2.{answer-wide, answer-by-walk, decode-words}
 use Rattle.walk.specs.Inner.Ready.{started}
-use Rattle.walk.specs.Inner.ReadBits.{bitsAt}
 use Rattle.walk.proofs.PlanWalk.{ready-start}
 use Rattle.walk.proofs.Starting.{started-is}
 use Rattle.refuse.specs.Inner.{sized, lentRefusal}
@@ -44,7 +43,7 @@ module _ (p : Plan) (ok : Accepted p) where
 
   -- The walk's row is the answer row.
   row-is : walkedRow (startOf p) (p .l) (p .bits) (pred (p .answer)) ≡ answerRow p
-  unfolding walkedRow walkOf bitsAt stepBits endOrder orderIn
+  unfolding walkedRow walkOf endOrder orderIn
   row-is =
       ap
       (λ S. tabulate (p .d)

@@ -5,7 +5,7 @@ use mathlib.Core.Path.{_≡_, refl, sym, ap, ap₂, subst, _∙_}
 use mathlib.Core.Bool.{Bool, true, false}
 use mathlib.Core.List.{List, [], _∷_}
 use borrow.Author.Tests.{eq-eqb, ne-eqb}
-use native.Mathlib.Nat.{div-eq-of-lt, lt-of-lt-of-le, mul-le-mul-right, suc-mul}
+use native.Mathlib.Nat.{div-eq-of-lt, lt-of-lt-of-le}
 use native.Mathlib.Decide.{decLe}
 use native.Mathlib.Omega.{arith}
 use lib.Dec.{T, eqb}
@@ -14,8 +14,7 @@ use lib.Pow.{pow-mono}
 use lib.Seq.{ext-getD}
 use Rattle.ladder.specs.Numbers.{numberOf, numbersOf}
 use Rattle.ladder.specs.Refusals.{sameNumbers}
-use Rattle.ladder.proofs.Numbers.{wordsOf-numberOf, numberOf-below, length-numbersOf}
-use Rattle.ladder.proofs.Lists.{getD-tabulate}
+use Rattle.ladder.proofs.Numbers.{wordsOf-numberOf, numberOf-below, length-numbersOf, number-at}
 use Rattle.ladder.proofs.FileRefusals.{sameNumbers-says}
 use Rattle.decode.proofs.Partly.{getD-wordsOf}
 
@@ -71,16 +70,11 @@ lists-differ a b n = go (sameNumbers a b) refl
 
 -- ---- values among words
 
--- The words of value j lie in the buffer.
-pub value-inside : (d k j n : ℕ) → j < d → n ≡ d * k → j * k + k ≤ n
-value-inside d k j n h e = omega (arith, mul-le-mul-right k h, suc-mul j k)
-
 -- Number j of words, as its part is lent.
-pub number-at : (d k j : ℕ) (ws : List ℕ) → j < d → numberOf (take (j * k + k - j * k) (drop (j * k) ws)) ≡ getD (numbersOf d k ws) j 0
-unfolding numbersOf
-number-at d k j ws h =
+pub lent-number : (d k j : ℕ) (ws : List ℕ) → j < d → numberOf (take (j * k + k - j * k) (drop (j * k) ws)) ≡ getD (numbersOf d k ws) j 0
+lent-number d k j ws h =
     let e : j * k + k - j * k ≡ k = omega arith in
-    ap (λ m. numberOf (take m (drop (j * k) ws))) e ∙ sym (getD-tabulate d (λ i. numberOf (take k (drop (i * k) ws))) j 0 h)
+    ap (λ m. numberOf (take m (drop (j * k) ws))) e ∙ sym (number-at d k ws j h)
 
 pub part-lengths : (j k n : ℕ) (values scalars : List ℕ) → n ≤ k → j * k + k ≤ length values → j * n + n ≤ length scalars
     → length (take (j * n + n - j * n) (drop (j * n) scalars)) ≤ length (take (j * k + k - j * k) (drop (j * k) values))

@@ -9,14 +9,14 @@ use lib.IntN.{pos}
 use lib.ListN.{length, getD, replicate, List·getD-append}
 use lib.Pow.{pow-pos, pow-mono}
 use Rattle.ladder.specs.Lists.{tabulate}
-use Rattle.ladder.specs.Matrix.{stepOrder, stepSigns, orderAfter, signsAfter}
-use Rattle.ladder.specs.Numbers.{bitsLength, bytesFor, valueWords, wordsOfAll}
+use Rattle.ladder.specs.Matrix.{stepOrder, stepSigns, orderAfter, signsAfter, Units}
+use Rattle.ladder.specs.Numbers.{bitsLength, bytesFor, valueWords, wordsOfAll, bitsAt}
 use Rattle.ladder.specs.Walk.{Walk, walkOf, orderOf, stepWalk}
 use Rattle.ladder.specs.Inner.Decoding.{digit, walked}
 use Rattle.ladder.proofs.Lists.{length-tabulate}
 use Rattle.ladder.proofs.Walk.{step-of-walk, length-orderAfter, length-signsAfter}
-use Rattle.walk.specs.Inner.Ready.{Ready, Units}
-use Rattle.walk.specs.Inner.ReadBits.{ReadBits, bitsAt}
+use Rattle.walk.specs.Inner.Ready.{Ready}
+use Rattle.walk.specs.Inner.ReadBits.{ReadBits}
 use Rattle.walk.proofs.Stepping.{ready-step}
 use Rattle.decode.specs.Inner.{stored, heldThen, storedThen, AtStart, Lowered}
 use Rattle.decode.proofs.Words.{length-stored, digit-small}

@@ -14,7 +14,7 @@ use Rattle.ladder.specs.Numbers.{numberOf, numbersOf, wordsOf, wordsOfAll, scal
 use Rattle.ladder.specs.Plan.{Plan, answerRow, valuesIn}
 use Rattle.ladder.specs.Refusals.{scalarsIn, planShape, shape}
 use Rattle.ladder.proofs.Lists.{map-tabulate, tabulate-same}
-use Rattle.ladder.proofs.Numbers.{wordsOf-numberOf, wordsOfAll-numbersOf, value-words-full}
+use Rattle.ladder.proofs.Numbers.{wordsOf-numberOf, wordsOfAll-numbersOf, value-words-full, own, own-below, number-at, own-within}
 use Rattle.ladder.proofs.Tests.{then-none, refusing-no, refusing-yes}
 use Rattle.ladder.proofs.Refusals.{shape-none, accepted-shapes}
 use Rattle.ladder.proofs.FileRefusals.{sameNumbers-says}
@@ -22,10 +22,9 @@ use Rattle.ladder.proofs.Operations.{EncodeOk, DecodeOk, CheckOk, PlanOk, decod
 use Rattle.ladder.proofs.Demand2.{decode-words}
 use Rattle.encode.specs.Promise.{EncodePromise}
 use Rattle.encode.specs.declared.call.Encoded.{Encoded}
-use Rattle.encode.proofs.Words.{own, own-below, number-at, within}
 use Rattle.encode.proofs.Promised.{written, encode-plan, encode-not-refused, encode-decodes}
 use Rattle.decode.specs.Promise.{DecodePromise, CheckPromise}
-use Rattle.decode.specs.declared.calls.Checked.{Checked}
+use Rattle.decode.specs.declared.checking.Checked.{Checked}
 use Rattle.decode.proofs.Equality.{lists-same}
 
 -- ---- refused or not
@@ -124,7 +123,7 @@ module _ {d l : ℕ} {scalars start bits : List ℕ} {e : Encoded} {startAfter b
             → wordsOf (valueWords l) (numberOf (own (scalarWords l) scalars j)) ≡ own (scalarWords l) scalars j ++ (0 ∷ [])
         column j h =
             let k = scalarWords l in
-            let inside = within d k (length scalars) j (ok .scalarsLong) h in
+            let inside = own-within d k (length scalars) j (ok .scalarsLong) h in
             let small : numberOf (own k scalars j) < 2 ^ l =
             subst (λ n. n < 2 ^ l) (number-at d k scalars j h) (ok .fit j h) in
             value-words-full l (numberOf (own k scalars j)) small e

@@ -5,7 +5,7 @@ use mathlib.Core.Path.{_≡_, sym, ap₂, _∙_}
 use mathlib.Core.List.{List}
 use Rattle.ladder.specs.Plan.{Plan}
 use Rattle.ladder.proofs.Tests.{refusing-same}
-use Rattle.decode.specs.declared.calls.Checked.{Checked}
+use Rattle.decode.specs.declared.checking.Checked.{Checked}
 use Rattle.decode.specs.Promise.{DecodePromise, CheckPromise}
 
 -- Two refusals with two outputs that decode could answer and leave on the same input are equal.

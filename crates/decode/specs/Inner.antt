@@ -8,13 +8,12 @@ use lib.Dec.{eqb}
 use lib.IntN.{ℤ, pos}
 use lib.ListN.{length, getD, set, take, drop, replicate}
 use Rattle.ladder.specs.Lists.{tabulate}
-use Rattle.ladder.specs.Matrix.{startSigns, orderAfter, signsAfter}
-use Rattle.ladder.specs.Numbers.{numberOf, numbersOf, wordsOf, wordsOfAll, bitsLength, scalarWords, valueWords}
+use Rattle.ladder.specs.Matrix.{startSigns, orderAfter, signsAfter, Units}
+use Rattle.ladder.specs.Numbers.{numberOf, numbersOf, wordsOf, wordsOfAll, bitsLength, scalarWords, valueWords, bitsAt}
 use Rattle.ladder.specs.Refusals.{sameNumbers}
 use Rattle.ladder.specs.Walk.{Walk, walkOf, orderOf}
 use Rattle.ladder.specs.Inner.Decoding.{digit, walked, walkedEntry}
-use Rattle.walk.specs.Inner.Ready.{Ready, Units}
-use Rattle.walk.specs.Inner.ReadBits.{bitsAt}
+use Rattle.walk.specs.Inner.Ready.{Ready}
 
 -- The words with word w of each of the first d values, k words each, replaced by the number held for its column.
 unfoldable pub stored : ℕ → ℕ → ℕ → List ℕ → List ℕ → List ℕ

@@ -6,7 +6,7 @@ use mathlib.Core.List.{List}
 use mathlib.Core.Bool.{false}
 use Rattle.ladder.specs.Plan.{Plan, answerRow, valuesIn}
 use Rattle.ladder.specs.Refusals.{refusing, decodeRefusal, checkRefusal, scalarsIn, sameNumbers}
-use Rattle.decode.specs.declared.calls.Checked.{Checked}
+use Rattle.decode.specs.declared.checking.Checked.{Checked}
 
 -- Decode, of the plan p, with the values as they come and as they are left: the words of the answer row of the last matrix; on refusal
 -- the values as they came.

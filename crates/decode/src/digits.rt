@@ -4,7 +4,7 @@ ghost use mathlib.Core.Path.{_≡_};
 ghost use lib.IntN.{pos};
 ghost use lib.ListN.{getD};
 ghost use Rattle.ladder.specs.Inner.Decoding.{digit};
-ghost use Rattle.walk.specs.Inner.Ready.{Units};
+ghost use Rattle.ladder.specs.Matrix.{Units};
 
 // The digit that a sign stands for: 1 for -1, else 0.
 pub fn digit(sign: i8) -> u64

@@ -8,7 +8,7 @@ ghost use lib.IntN.{pos};
 ghost use lib.ListN.{length, getD, take};
 ghost use Rattle.ladder.specs.Lists.{count};
 ghost use Rattle.ladder.specs.Numbers.{wordsOfAll};
-ghost use Rattle.walk.specs.Inner.Ready.{Units};
+ghost use Rattle.ladder.specs.Matrix.{Units};
 ghost use Rattle.decode.specs.Inner.{Raisable, raised, OneRaisable, raisedOne};
 
 // For each column, how often it stands among the first `row` places: 1 or 0.

@@ -20,7 +20,7 @@ use Rattle.ladder.proofs.Bits.{joined-below}
 use Rattle.ladder.proofs.Encoding.{order-to-go, length-encodedBits, encodedBits-below}
 use Rattle.encode.specs.declared.packing.Packing.{Packing}
 use Rattle.encode.specs.Inner.Scalars.{Fitting, gathered}
-use Rattle.encode.specs.Inner.Order.{Columns, dealtBy}
+use Rattle.encode.specs.Inner.Order.{ColumnsIn, dealtBy}
 use Rattle.encode.specs.Inner.Packing.{bitsIn, Open, Room, Put}
 use Rattle.encode.proofs.Dealt.{dealt-gathered}
 use Rattle.encode.proofs.Written.{packed}
@@ -87,7 +87,7 @@ module _ {d l : ℕ} {words E : List ℕ} (fit : Fitting d l words) (a : Arrange
 
   module _ {m : ℕ} {bytes order : List ℕ} {p : Packing} {below : ℕ} (b : Behind d l ks E m bytes order p below) where
     -- The order's places hold columns.
-    pub columns : Columns d order
+    pub columns : ColumnsIn d order
     columns = record {
       dHigh = fit .shaped .dHigh;
       inside = λ k h.

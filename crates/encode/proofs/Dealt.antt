@@ -15,7 +15,7 @@ use Rattle.ladder.specs.Walk.{bitsOf}
 use Rattle.ladder.proofs.Lists.{length-tabulate, getD-tabulate, getD-map, map-same}
 use Rattle.ladder.proofs.Encoding.{dealt-is}
 use Rattle.encode.specs.Inner.Scalars.{gathered}
-use Rattle.encode.specs.Inner.Order.{Columns, dealtBy}
+use Rattle.encode.specs.Inner.Order.{ColumnsIn, dealtBy}
 use Rattle.encode.proofs.Digits.{bitsOf-snoc, xor-bit}
 use Rattle.encode.proofs.Gathered.{gathered-bit}
 
@@ -75,7 +75,7 @@ eight-is = refl
 pub rising : (d : ℕ) → d ≤ 8 → take d eight ≡ tabulate d (λ j. j)
 rising d h = ap (take d) eight-is ∙ take-tabulate 8 d (λ j. j) h
 
-pub rising-columns : (d : ℕ) → d ≤ 8 → Columns d eight
+pub rising-columns : (d : ℕ) → d ≤ 8 → ColumnsIn d eight
 rising-columns d h = record {
   dHigh = h;
   inside = λ k q. omega (arith, ap (λ s. getD s k 0) eight-is ∙ getD-tabulate 8 (λ j. j) k 0 (omega arith));

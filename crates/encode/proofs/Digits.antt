@@ -4,21 +4,12 @@ use Prim.Native.Nat.{ℕ, suc, _+_, _-_, _*_, _/_, _%_, _^_, _<_}
 use mathlib.Core.Path.{_≡_, sym, ap, ap₂, _∙_}
 use mathlib.Core.List.{[], _∷_, _++_}
 use native.Mathlib.Omega.{arith}
-use lib.ListN.{length, getD}
 use lib.Bits.{bitXor, xor-shr, xor-add-and}
 use lib.Pow.{shr-shr, high, low}
 use Rattle.ladder.specs.Lists.{tabulate}
 use Rattle.ladder.specs.Walk.{bitsOf}
-use Rattle.ladder.proofs.Lists.{length-tabulate, getD-tabulate, tabulate-same, tabulate-add}
+use Rattle.ladder.proofs.Lists.{tabulate-same, tabulate-add}
 use Rattle.encode.proofs.Words.{low-bit}
-
-pub length-bitsOf : (d n : ℕ) → length (bitsOf d n) ≡ d
-unfolding bitsOf
-length-bitsOf d n = length-tabulate d _
-
-pub getD-bitsOf : (d n k : ℕ) → k < d → getD (bitsOf d n) k 0 ≡ n / 2 ^ (d - suc k) % 2
-unfolding bitsOf
-getD-bitsOf d n k h = getD-tabulate d (λ k. n / 2 ^ (d - suc k) % 2) k 0 h
 
 -- The bits of x, then the b bits of y.
 pub bitsOf-append : (a b x y : ℕ) → y < 2 ^ b → bitsOf (a + b) (x * 2 ^ b + y) ≡ bitsOf a x ++ bitsOf b y

@@ -11,9 +11,8 @@ use lib.Seq.{drop-cons}
 use Rattle.ladder.specs.Lists.{odds}
 use Rattle.ladder.specs.Numbers.{numberOf, numbersOf}
 use Rattle.ladder.proofs.Lists.{odds-le}
-use Rattle.ladder.proofs.Numbers.{length-numbersOf}
+use Rattle.ladder.proofs.Numbers.{length-numbersOf, own, number-at}
 use Rattle.encode.specs.Inner.Scalars.{gathered}
-use Rattle.encode.proofs.Words.{own, number-at}
 
 -- One number more in front.
 pub gathered-drop : (ks : List ℕ) (i j : ℕ) → j < length ks

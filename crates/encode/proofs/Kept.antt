@@ -20,16 +20,16 @@ use Rattle.encode.specs.Inner.Scalars.{Fitting}
 use Rattle.encode.specs.Promise.{EncodePromise}
 
 -- What the core asks of an input.
-pub record Ready (d l : ℕ) (scalars start bits : List ℕ) : Type 0 where
+pub record Encodable (d l : ℕ) (scalars start bits : List ℕ) : Type 0 where
   pub fitting : Fitting d l scalars
   pub startLong : length start ≡ d
   pub bitsLong : length bits ≡ bitsLength d l
 
 module _ (d l : ℕ) (scalars start bits : List ℕ) (n : ℕ) (judged : n ≡ encodeRefusal d l scalars start bits) where
   -- An input that is not refused has it.
-  pub ready : n ≡ 0 → Ready d l scalars start bits
+  pub encodable : n ≡ 0 → Encodable d l scalars start bits
   unfolding scalarsLength startLength scalarsIn
-  ready none =
+  encodable none =
       let ok = encode-none d l scalars start bits .0 (sym judged ∙ none) in
       record {
         fitting = record {
@@ -74,7 +74,7 @@ pub house-arranged : (d l : ℕ) (scalars E : List ℕ) → E ≡ houseOrder d (
 house-arranged d l scalars E e = rw e (house-arrangement d _ (length-numbersOf d (scalarWords l) scalars))
 
 -- Of d scalars at most d are odd.
-pub few-odd : {d l : ℕ} {scalars start bits : List ℕ} → Ready d l scalars start bits → (odd : ℕ) → odd ≡ odds (numbersOf d (scalarWords l) scalars)
+pub few-odd : {d l : ℕ} {scalars start bits : List ℕ} → Encodable d l scalars start bits → (odd : ℕ) → odd ≡ odds (numbersOf d (scalarWords l) scalars)
     → odd ≤ 8
 few-odd {d} {l} {scalars} ok odd e =
     omega (arith, odds-le (numbersOf d (scalarWords l) scalars), length-numbersOf d (scalarWords l) scalars, ok .fitting .shaped .dHigh)

@@ -12,7 +12,7 @@ use Rattle.ladder.specs.Encoding.{picked, passed, rearrange}
 use Rattle.ladder.specs.Walk.{bitsOf}
 use Rattle.encode.specs.declared.order.Parted.{Parted}
 use Rattle.encode.specs.Inner.Order.{Collected, Turned}
-use Rattle.encode.proofs.Digits.{length-bitsOf, getD-bitsOf}
+use Rattle.ladder.proofs.Walk.{length-bitsOf, getD-bitsOf}
 
 picked-snoc : (S r : List ℕ) (j b : ℕ) → length S ≡ length r → picked (S ++ (j ∷ [])) (r ++ (b ∷ [])) ≡ picked S r ++ picked (j ∷ []) (b ∷ [])
 unfolding picked

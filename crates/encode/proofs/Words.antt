@@ -3,15 +3,12 @@
 use Prim.Native.Nat.{ℕ, zero, suc, _+_, _-_, _*_, _/_, _%_, _^_, _≤_, _<_}
 use mathlib.Core.Path.{_≡_, sym, ap, _∙_}
 use mathlib.Core.List.{List, [], _∷_}
-use native.Mathlib.Nat.{zero-div, suc-inj, suc-ne-zero, suc-mul, mul-le-mul-right}
+use native.Mathlib.Nat.{zero-div, suc-inj, suc-ne-zero}
 use native.Mathlib.Omega.{arith}
-use lib.ListN.{length, getD, take, drop}
-use lib.Seq.{getD-take, getD-drop}
+use lib.ListN.{length, getD}
 use lib.Pow.{field, mod-mod-pow, shr-shr}
-use Rattle.ladder.specs.Lists.{all}
-use Rattle.ladder.specs.Numbers.{numberOf, numbersOf, scalarWords}
-use Rattle.ladder.proofs.Lists.{getD-tabulate}
-use Rattle.ladder.proofs.Numbers.{take-below, drop-below}
+use Rattle.ladder.specs.Numbers.{numberOf, scalarWords}
+use Rattle.ladder.proofs.Numbers.{own, own-below, own-at, own-within}
 use Rattle.encode.specs.Inner.Scalars.{Shaped}
 
 -- A bit below place b is one of the number's lowest b bits.
@@ -58,36 +55,18 @@ number-top (w ∷ ws) h (suc q) r e = past-word w ws q r (h zero) ∙ number-top
 
 -- ---- one of the numbers in words
 
--- The words of number j, where each number has k.
-abbrev pub own : ℕ → List ℕ → ℕ → List ℕ
-own k ws j = take k (drop (j * k) ws)
-
-pub number-at : (d k : ℕ) (ws : List ℕ) (j : ℕ) → j < d → getD (numbersOf d k ws) j 0 ≡ numberOf (own k ws j)
-unfolding numbersOf
-number-at d k ws j h = getD-tabulate d (λ i. numberOf (own k ws i)) j 0 h
-
 module _ (k : ℕ) (ws : List ℕ) (words : (i : ℕ) → getD ws i 0 < 2 ^ 64) (j : ℕ) where
-  pub own-below : (i : ℕ) → getD (own k ws j) i 0 < 2 ^ 64
-  own-below = take-below (2 ^ 64) k (drop (j * k) ws) (drop-below (2 ^ 64) (j * k) ws words)
-
-  pub own-at : (q : ℕ) → q < k → getD (own k ws j) q 0 ≡ getD ws (j * k + q) 0
-  own-at q h = getD-take k (drop (j * k) ws) q 0 h ∙ getD-drop (j * k) ws q 0
-
   -- Bit i of number j stands in its word i / 64.
   pub own-bit : (i : ℕ) → i / 64 < k → getD ws (j * k + i / 64) 0 / 2 ^ (i % 64) % 2 ≡ numberOf (own k ws j) / 2 ^ i % 2
   own-bit i h =
       let parts : i ≡ 64 * (i / 64) + i % 64 = omega arith in
       sym
       (ap (λ e. numberOf (own k ws j) / 2 ^ e % 2) parts
-      ∙ number-bit (own k ws j) own-below (i / 64) (i % 64) (omega arith)
-      ∙ ap (λ w. w / 2 ^ (i % 64) % 2) (own-at (i / 64) h))
-
--- The words of number j end within those of all d.
-pub within : (d k n j : ℕ) → n ≡ d * k → j < d → j * k + k ≤ n
-within d k n j e h = omega (arith, suc-mul j k, mul-le-mul-right k h)
+      ∙ number-bit (own k ws j) (own-below k ws words j) (i / 64) (i % 64) (omega arith)
+      ∙ ap (λ w. w / 2 ^ (i % 64) % 2) (own-at k ws j (i / 64) h))
 
 pub words-within : (d l : ℕ) (ws : List ℕ) → Shaped d l ws → (k j : ℕ) → k ≡ scalarWords l → j < d → j * k + k ≤ length ws
-words-within d l ws s k j e h = within d k (length ws) j (s .long ∙ ap (λ n. d * n) (sym e)) h
+words-within d l ws s k j e h = own-within d k (length ws) j (s .long ∙ ap (λ n. d * n) (sym e)) h
 
 -- Bit i of l bits stands in one of the words.
 pub word-within : (l k i : ℕ) → k ≡ scalarWords l → i < l → i / 64 < k

@@ -15,7 +15,8 @@ use Rattle.ladder.specs.Walk.{bitsOf}
 use Rattle.ladder.proofs.Bits.{length-packBits, packBits-below, bitAt-packBits, bytes-unique, bitAt-byte}
 use Rattle.encode.specs.declared.packing.Packing.{Packing}
 use Rattle.encode.specs.Inner.Packing.{bitsIn, Room, Put}
-use Rattle.encode.proofs.Digits.{length-bitsOf, getD-bitsOf, bitsOf-append}
+use Rattle.ladder.proofs.Walk.{length-bitsOf, getD-bitsOf}
+use Rattle.encode.proofs.Digits.{bitsOf-append}
 
 -- The bits of bytes, one after the other.
 abbrev bitsOfBytes : List ℕ → List ℕ

@@ -3,11 +3,11 @@ ghost use mathlib.Core.Path.{_≡_};
 ghost use Prim.Native.Nat.{_^_, _<_};
 ghost use lib.ListN.{take};
 ghost use Rattle.ladder.specs.Walk.{bitsOf};
-ghost use Rattle.encode.specs.Inner.Order.{Columns, dealtBy};
+ghost use Rattle.encode.specs.Inner.Order.{ColumnsIn, dealtBy};
 
 // The bits of a step as one number, that of the first place highest. Column j's bit stands in `dealt` at weight 2^j.
 pub fn deal(order: [u8; 8], d: usize, dealt: u64) -> u64
-    requires { ⌜ Columns d order ⌝ }
+    requires { ⌜ ColumnsIn d order ⌝ }
     ensures { λ r. ⌜ (bitsOf d r ≡ dealtBy dealt (take d order)) × (r < 2 ^ d) ⌝ }
 {
     let mut r: u64 = 0;

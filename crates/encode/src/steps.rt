@@ -13,11 +13,11 @@ ghost use Rattle.ladder.specs.Numbers.{numbersOf, scalarWords, packBits, bitsLe
 ghost use Rattle.ladder.specs.Matrix.{Arrangement};
 ghost use Rattle.ladder.specs.Encoding.{encodedStart, encodedBits};
 ghost use Rattle.encode.specs.Inner.Scalars.{Fitting};
-ghost use Rattle.encode.specs.Inner.Order.{Columns};
+ghost use Rattle.encode.specs.Inner.Order.{ColumnsIn};
 
 // Writes the first d columns of an order, counted from 1.
 fn write_start(order: [u8; 8], d: usize, start: &mut [u8])
-    requires { ⌜ Columns d order ⌝ }
+    requires { ⌜ ColumnsIn d order ⌝ }
     requires { ⌜ length (now start) ≡ d ⌝ }
     ensures { λ _. ⌜ now (start .exit) ≡ map suc (take d order) ⌝ }
 {

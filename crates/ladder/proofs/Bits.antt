@@ -10,7 +10,7 @@ use lib.Arith.{digits-lt}
 use lib.ListN.{length, getD, drop, drop-of-length-le, List·getD-eq-default, List·getD-append}
 use lib.Seq.{getD-append-add, getD-drop, ext-getD}
 use Rattle.ladder.specs.Lists.{tabulate, joined}
-use Rattle.ladder.specs.Numbers.{bitAt, byteOf, bytesFor, packBits}
+use Rattle.ladder.specs.Numbers.{bitAt, byteOf, bytesFor, packBits, bitsAt}
 use Rattle.ladder.specs.Plan.{Plan, stepBits}
 use Rattle.ladder.proofs.Lists.{length-tabulate, getD-tabulate, tabulate-same, tabulate-getD, tabulate-add, length-joined}
 use Rattle.ladder.proofs.Numbers.{tabulate-below, drop-below}
@@ -173,12 +173,12 @@ step-of-packed d l f e h s m =
 
 -- The bits of a plan's step are 0 or 1.
 pub stepBits-below : (p : Plan) (s k : ℕ) → getD (stepBits p s) k 0 < 2
-unfolding stepBits
+unfolding bitsAt
 stepBits-below p s = tabulate-below 2 (p .d) _ (omega arith) (λ k h. bitAt-below (p .bits) (s * p .d + k))
 
 -- A step has d bits.
 pub length-stepBits : (p : Plan) (s : ℕ) → length (stepBits p s) ≡ p .d
-unfolding stepBits
+unfolding bitsAt
 length-stepBits p s = length-tabulate (p .d) _
 
 -- The bits of all steps, one after the other, are the bits in number order.

@@ -7,7 +7,7 @@ use mathlib.Core.List.{List, [], map}
 use native.Mathlib.Omega.{arith}
 use lib.ListN.{length, getD}
 use Rattle.ladder.specs.Lists.{odds}
-use Rattle.ladder.specs.Numbers.{numbersOf, wordsOfAll, bitAt, packBits, bitsLength, valueWords}
+use Rattle.ladder.specs.Numbers.{numbersOf, wordsOfAll, bitAt, packBits, bitsLength, valueWords, bitsAt}
 use Rattle.ladder.specs.Matrix.{row, entry, Arrangement, StateMatrix, matrixAfter, orderAfter}
 use Rattle.ladder.specs.Plan.{Plan, startOrder, stepBits, matrixIn, orderIn, lastMatrix, endOrder, answerRow, valuesIn}
 use Rattle.ladder.specs.Encoding.{encodedStart, encodedBits, encodeWith, encode}
@@ -35,7 +35,7 @@ module _ {d : ℕ} (l : ℕ) (ks : List ℕ) {E : List ℕ} (a : Arrangement d E
   encoded-start-order = pred-suc (encodedStart l ks E)
 
   pub encoded-step-bits : (s : ℕ) → s < l → stepBits (encodeWith d l ks E) s ≡ encodedBits l ks E s
-  unfolding stepBits encodeWith
+  unfolding bitsAt encodeWith
   encoded-step-bits s h =
       step-of-packed d l (encodedBits l ks E) (λ t q. length-encodedBits l ks a t) (encodedBits-below l ks a) s h
 
@@ -147,7 +147,7 @@ module _ (p : Plan) (ok : Accepted p) where
   pub the-bytes : length (p .bits) ≡ bitsLength (p .d) (p .l) → ((i : ℕ) → getD (p .bits) i 0 < 256)
       → ((i : ℕ) → p .l * p .d ≤ i → bitAt (p .bits) i ≡ 0)
       → encodeWith (p .d) (p .l) lowerNeighbours (endOrder p) .bits ≡ p .bits
-  unfolding encodeWith endOrder orderIn bitsLength stepBits
+  unfolding encodeWith endOrder orderIn bitsLength bitsAt
   the-bytes long bytes filling =
       ap packBits
       (joined-same (p .l) (encodedBits (p .l) lowerNeighbours (orderAfter (startOrder p) (stepBits p) (p .l))) (stepBits p)

@@ -9,17 +9,17 @@ use native.Mathlib.Omega.{arith}
 use lib.IntN.{pos}
 use lib.ListN.{length, getD, length-map}
 use Rattle.ladder.specs.Lists.{ones}
-use Rattle.ladder.specs.Matrix.{Row, Matrix, row, entry, addRows, doubleRow, StateMatrix, signsOf, Pair, additions, step, matrixAfter}
+use Rattle.ladder.specs.Matrix.{Row, Matrix, row, entry, addRows, doubleRow, StateMatrix, signsOf, Pair, additions, step, matrixAfter, IsUnit}
 use Rattle.ladder.specs.Plan.{Plan, stepBits, matrixIn, orderIn, signsIn}
 use Rattle.ladder.specs.Trace.{difference, Entry, operations, entryOf, block, blockIn}
 use Rattle.ladder.specs.Registers.{modulus, plainRegisters, differenceRegisters}
 use Rattle.ladder.specs.Refusals.{runRefusal}
 use Rattle.ladder.proofs.Lists.{getD-map, ones-le}
-use Rattle.ladder.proofs.Step.{rowY-inside, length-additions, additions-x, additions-y, row-step-suc}
+use Rattle.ladder.proofs.Step.{rowY-inside, length-additions, additions-x, additions-y, row-step-suc, noPair}
 use Rattle.ladder.proofs.Stairs.{stairs}
 use Rattle.ladder.proofs.Ladder.{state-after, signs-after, entry-bound}
 use Rattle.ladder.proofs.Bits.{length-stepBits, stepBits-below}
-use Rattle.ladder.proofs.Vectors.{IsUnit, IsSmall, vector-small, vector-not-zero, rows-apart, difference-at, sub-le}
+use Rattle.ladder.proofs.Vectors.{IsSmall, vector-small, vector-not-zero, rows-apart, difference-at, sub-le}
 use Rattle.ladder.proofs.Registers.{runs-agree}
 use Rattle.ladder.proofs.Refusals.{Accepted, run-accepted}
 
@@ -43,9 +43,6 @@ pub record Doubles (d : ℕ) (B : Matrix) (new : Row) (e : Entry) : Type 0 where
 -- What stands where a block has no entry.
 unfoldable pub noEntry : Entry
 noEntry = record { x = 0; y = 0; vector = [] }
-
-noPair : Pair
-noPair = record { x = 0; y = 0 }
 
 module _ {d : ℕ} {B : Matrix} {S : List ℕ} (M : StateMatrix d B S) (r : List ℕ) (long : length r ≡ d) where
   pair-adds : (p : Pair) (new : Row) → p .x < p .y → p .y ≤ d → new ≡ addRows (row B (p .x)) (row B (p .y))

@@ -8,7 +8,7 @@ use native.Mathlib.Omega.{arith}
 use lib.ListN.{length, getD, take, drop, length-append}
 use lib.Seq.{take-at, drop-at, drop-append-add, getD-append-add}
 use Rattle.ladder.specs.Lists.{joined}
-use Rattle.ladder.specs.Numbers.{bitAt, bytesFor, packBits, bitsLength}
+use Rattle.ladder.specs.Numbers.{bitAt, bytesFor, packBits, bitsLength, bitsAt}
 use Rattle.ladder.specs.Plan.{Plan, startOrder, stepBits}
 use Rattle.ladder.specs.PlanFile.{mark, trailerSize, bodyLength, fileLength, trailerByte, dIn, answerIn, lIn, distanceIn, markIn, bodyPlace, bodyIn, planIn, twoBytes, fourBytes, fileOf}
 use Rattle.ladder.specs.Refusals.{unpackRefusal}
@@ -116,7 +116,7 @@ module _ (p : Plan) (ok : Accepted p) (pre : List ℕ) where
 
   -- So it holds the same plan: d, l, start order, answer row and the bits of every step.
   pub plan-back : SamePlan (planIn (pre ++ fileOf p)) p
-  unfolding planIn stepBits
+  unfolding planIn bitsAt
   plan-back = record {
     d = d-back;
     l = l-back;

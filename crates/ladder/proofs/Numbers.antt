@@ -7,11 +7,11 @@ use mathlib.Core.List.{List, [], _∷_, _++_, flatten}
 use native.Mathlib.Nat.{suc-inj, zero-mul, suc-mul, mul-le-mul-right, suc-ne-zero}
 use native.Mathlib.Omega.{arith}
 use lib.ListN.{length, getD, take, drop, length-append, length-drop, take-append-drop}
-use lib.Seq.{take-at, drop-append-add, getD-drop, length-take-le}
+use lib.Seq.{take-at, drop-append-add, getD-take, getD-drop, length-take-le}
 use lib.Pow.{pow-pos, pow-mono, pow-lt, pow-add}
 use Rattle.ladder.specs.Lists.{tabulate}
 use Rattle.ladder.specs.Numbers.{numberOf, wordsOf, numbersOf, wordsOfAll, scalarWords, valueWords}
-use Rattle.ladder.proofs.Lists.{length-tabulate, tabulate-same}
+use Rattle.ladder.proofs.Lists.{length-tabulate, getD-tabulate, tabulate-same}
 
 -- ---- elements below a bound
 
@@ -165,3 +165,25 @@ value-words-full l n h e = ap (λ k. wordsOf k n) count ∙ wordsOf-more (scalar
 pub value-words : (l n : ℕ) → n < 2 ^ l → l % 64 ≢ 0 → wordsOf (valueWords l) n ≡ wordsOf (scalarWords l) n
 unfolding valueWords scalarWords
 value-words l n h e = ap (λ k. wordsOf k n) (omega arith)
+
+-- ---- one of the numbers in words
+
+-- The words of number j, where each number has k.
+abbrev pub own : ℕ → List ℕ → ℕ → List ℕ
+own k ws j = take k (drop (j * k) ws)
+
+-- Number j is the number of its words ..
+pub number-at : (d k : ℕ) (ws : List ℕ) (j : ℕ) → j < d → getD (numbersOf d k ws) j 0 ≡ numberOf (own k ws j)
+unfolding numbersOf
+number-at d k ws j h = getD-tabulate d (λ i. numberOf (own k ws i)) j 0 h
+
+-- .. which are words of 64 bits, those from j*k on ..
+pub own-below : (k : ℕ) (ws : List ℕ) → ((i : ℕ) → getD ws i 0 < 2 ^ 64) → (j i : ℕ) → getD (own k ws j) i 0 < 2 ^ 64
+own-below k ws words j = take-below (2 ^ 64) k (drop (j * k) ws) (drop-below (2 ^ 64) (j * k) ws words)
+
+pub own-at : (k : ℕ) (ws : List ℕ) (j q : ℕ) → q < k → getD (own k ws j) q 0 ≡ getD ws (j * k + q) 0
+own-at k ws j q h = getD-take k (drop (j * k) ws) q 0 h ∙ getD-drop (j * k) ws q 0
+
+-- .. and end within those of all d.
+pub own-within : (d k n j : ℕ) → n ≡ d * k → j < d → j * k + k ≤ n
+own-within d k n j e h = omega (arith, suc-mul j k, mul-le-mul-right k h)

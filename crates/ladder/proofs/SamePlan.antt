@@ -7,7 +7,7 @@ use mathlib.Core.List.{List, map}
 use native.Mathlib.Omega.{arith}
 use lib.Arith.{digits-lt}
 use Rattle.ladder.specs.Lists.{tabulate, joined}
-use Rattle.ladder.specs.Numbers.{bitAt}
+use Rattle.ladder.specs.Numbers.{bitAt, bitsAt}
 use Rattle.ladder.specs.Matrix.{row, matrixAfter, orderAfter, signsAfter}
 use Rattle.ladder.specs.Plan.{Plan, startOrder, stepBits, matrixIn, orderIn, signsIn, lastMatrix, endOrder, answerRow}
 use Rattle.ladder.specs.Trace.{block, blockIn, entriesIn}
@@ -40,7 +40,7 @@ module _ (p q : Plan) (e : SamePlan p q) where
   same-start = ap (map pred) (e .start)
 
   pub same-bits : (s : ℕ) → s < p .l → stepBits p s ≡ stepBits q s
-  unfolding stepBits
+  unfolding bitsAt
   same-bits s h =
       tabulate-same (p .d) (λ k. bitAt (p .bits) (s * p .d + k)) (λ k. bitAt (q .bits) (s * p .d + k))
       (λ k l. e .bits (s * p .d + k) (digits-lt h l))

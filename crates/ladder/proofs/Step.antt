@@ -138,7 +138,7 @@ length-doubleRow u = length-map u (λ a. 2 * a)
 
 -- ---- the rows of a step
 
-noPair : Pair
+pub noPair : Pair
 noPair = record { x = 0; y = 0 }
 
 pub length-step : (B : Matrix) (r : List ℕ) → length (step B r) ≡ suc (length r)

@@ -12,7 +12,7 @@ use lib.Dec.{T, ltb, ltb→lt, nltb→le}
 use lib.IntN.{ℤ, pos, negsuc, subℕ}
 use lib.ListN.{length, getD, set, length-set, List·getD-eq-default}
 use lib.Seq.{ext-getD, getD-set-same, getD-set-other}
-use Rattle.ladder.specs.Matrix.{Row, Matrix, row, entry, signOf, stepOrder}
+use Rattle.ladder.specs.Matrix.{Row, Matrix, row, entry, signOf, stepOrder, IsUnit}
 use Rattle.ladder.specs.Trace.{difference}
 use Rattle.ladder.proofs.Lists.{length-tabulate, getD-tabulate}
 use Rattle.ladder.proofs.Step.{onesTo-le, onesTo-between, onesTo-all, onesTo-one, onesTo-zero, rowX, rowY, rowX-inside, rowY-inside, stepOrder-one, stepOrder-zero}
@@ -54,10 +54,6 @@ pub difference-at : (d : ℕ) (v u : Row) (j : ℕ) → j < d → getD (differen
 unfolding difference
 difference-at d v u j h = getD-tabulate d (λ i. subℕ (getD v i 0) (getD u i 0)) j (pos 0) h
 
--- 1 or -1.
-pub IsUnit : ℤ → Type 0
-IsUnit s = (s ≡ pos 1) ⊎ (s ≡ negsuc 0)
-
 -- A coefficient: -1, 0 or 1.
 pub IsSmall : ℤ → Type 0
 IsSmall s = (s ≡ pos 0) ⊎ IsUnit s
@@ -86,7 +82,6 @@ module _ {d : ℕ} {B : Matrix} {S : List ℕ} (C : Stairs d B S) (x y : ℕ) (u
       (C .stair k h .upper y p ∙ sym (C .stair k h .upper x (omega arith)))
 
   sign-unit : (j : ℕ) → j < d → IsUnit (signOf (entry B 0 j) (entry B d j))
-  unfolding IsUnit
   sign-unit j h =
       ⊎-elim (λ p. inl (sign-up (entry B 0 j) (entry B d j) p)) (λ p. inr (sign-down (entry B 0 j) (entry B d j) p)) (C .apart j h)
 

@@ -13,7 +13,7 @@ use lib.Pow.{high, low, field, mod-mod-pow}
 use Rattle.ladder.specs.Lists.{tabulate}
 use Rattle.ladder.specs.Matrix.{stepOrder, stepSigns, startSigns, orderAfter, signsAfter}
 use Rattle.ladder.specs.Walk.{Walk, bitsOf, walkOf, orderOf, walkSigns, stepWalk}
-use Rattle.ladder.proofs.Lists.{tabulate-same}
+use Rattle.ladder.proofs.Lists.{length-tabulate, getD-tabulate, tabulate-same}
 use Rattle.ladder.proofs.Step.{length-stepOrder}
 use Rattle.ladder.proofs.Signs.{length-turn}
 
@@ -49,6 +49,16 @@ unfolding stepWalk walkOf
 step-of-walk d S signs n e f = rw (order-of-walk d S signs e, signs-of-walk d S signs f)
 
 -- ---- the bits of a step as one number
+
+-- A number stands for d bits ..
+pub length-bitsOf : (d n : ℕ) → length (bitsOf d n) ≡ d
+unfolding bitsOf
+length-bitsOf d n = length-tabulate d (λ k. n / 2 ^ (d - suc k) % 2)
+
+-- .. the first of the highest weight.
+pub getD-bitsOf : (d n k : ℕ) → k < d → getD (bitsOf d n) k 0 ≡ n / 2 ^ (d - suc k) % 2
+unfolding bitsOf
+getD-bitsOf d n k h = getD-tabulate d (λ i. n / 2 ^ (d - suc i) % 2) k 0 h
 
 -- The number of the bits r, its first bit the highest.
 unfoldable pub numberOfBits : List ℕ → ℕ

@@ -10,7 +10,7 @@ use native.Mathlib.Omega.{arith}
 use lib.IntN.{ℤ, pos, negsuc, negℤ}
 use lib.ListN.{length, getD, set, replicate, length-map, length-set, length-replicate, getD-replicate, List·getD-append}
 use lib.Seq.{take-at, getD-take, getD-set-same, getD-set-other, length-take-le}
-use Rattle.ladder.specs.Matrix.{Arrangement, startSigns, turn, stepSigns}
+use Rattle.ladder.specs.Matrix.{Arrangement, startSigns, turn, stepSigns, IsUnit, Units}
 use Rattle.ladder.specs.Walk.{Walk, bitsOf, walkOf, orderOf, walkSigns, stepWalk}
 use Rattle.ladder.specs.Refusals.{walkOrder, stepRefusal}
 use Rattle.ladder.proofs.Lists.{length-tabulate}
@@ -23,27 +23,21 @@ use Rattle.ladder.proofs.Operations.{step-none}
 
 -- ---- signs
 
--- Every sign of a list is 1 or -1.
-abbrev pub Units : List ℤ → Type 0
-Units signs = (j : ℕ) → j < length signs → (getD signs j (pos 0) ≡ pos 1) ⊎ (getD signs j (pos 0) ≡ negsuc 0)
-
 -- Turned signs are 1 or -1 too.
-pub turn-units : (signs : List ℤ) (S r : List ℕ) → Units signs → Units (turn signs S r)
+pub turn-units : {d : ℕ} (signs : List ℤ) (S r : List ℕ) → length signs ≡ d → Units d signs → Units d (turn signs S r)
 unfolding turn
-turn-units signs [] r u = u
-turn-units signs (i ∷ S) [] u = u
-turn-units signs (i ∷ S) (zero ∷ r) u = turn-units signs S r u
-turn-units signs (i ∷ S) (suc b ∷ r) u =
+turn-units signs [] r e u = u
+turn-units signs (i ∷ S) [] e u = u
+turn-units signs (i ∷ S) (zero ∷ r) e u = turn-units signs S r e u
+turn-units {d} signs (i ∷ S) (suc b ∷ r) e u =
     let s = negℤ (getD signs i (pos 0)) in
-    turn-units (set signs i s) S r (λ j h. go j (omega (arith, length-set signs i s)) (ℕ-discrete j i))
+    turn-units (set signs i s) S r (length-set signs i s ∙ e) (λ j h. go j h (ℕ-discrete j i))
   where
-    go : (j : ℕ) → j < length signs → Dec (j ≡ i)
-        → (getD (set signs i (negℤ (getD signs i (pos 0)))) j (pos 0) ≡ pos 1)
-        ⊎ (getD (set signs i (negℤ (getD signs i (pos 0)))) j (pos 0) ≡ negsuc 0)
-    go j h (yes e) =
+    go : (j : ℕ) → j < d → Dec (j ≡ i) → IsUnit (getD (set signs i (negℤ (getD signs i (pos 0)))) j (pos 0))
+    go j h (yes same) =
         let l : i < length signs = omega arith in
-        rw (e, getD-set-same signs i (negℤ (getD signs i (pos 0))) (pos 0) l)
-        (⊎-elim (λ p. inr (ap negℤ p)) (λ p. inl (ap negℤ p)) (u i l))
+        rw (same, getD-set-same signs i (negℤ (getD signs i (pos 0))) (pos 0) l)
+        (⊎-elim (λ p. inr (ap negℤ p)) (λ p. inl (ap negℤ p)) (u i (omega arith)))
     go j h (no ne) = rw (getD-set-other signs i j (negℤ (getD signs i (pos 0))) (pos 0) ne) (u j h)
 
 -- ---- a walk state that is in order
@@ -57,7 +51,7 @@ filled [] (suc n) z zero h = refl
 filled [] (suc n) z (suc j) h = filled [] n z j (omega arith)
 
 -- An arrangement and as many signs of 1 and -1 make a walk state in order.
-pub walk-in-order : {d : ℕ} {S : List ℕ} (signs : List ℤ) → d ≤ 8 → Arrangement d S → length signs ≡ d → Units signs
+pub walk-in-order : {d : ℕ} {S : List ℕ} (signs : List ℤ) → d ≤ 8 → Arrangement d S → length signs ≡ d → Units d signs
     → walkOrder (walkOf d S signs) ≡ 0
 unfolding walkOf
 walk-in-order {d} {S} signs h a e u =
@@ -71,7 +65,7 @@ walk-in-order {d} {S} signs h a e u =
           (record { columns = rw (pred-suc S) a; counted = ap (map suc) (sym (pred-suc S)) });
       units = λ j l.
           let b : j < length signs = omega arith in
-          rw (List·getD-append signs (replicate (8 - d) (pos 0)) (pos 0) j b) (u j b);
+          rw (List·getD-append signs (replicate (8 - d) (pos 0)) (pos 0) j b) (u j l);
       restOrder = λ j l. filled (map suc S) (8 - d) 0 j (omega arith);
       restSigns = λ j l. filled signs (8 - d) (pos 0) j (omega arith);
     })
@@ -83,7 +77,7 @@ pub start-walk-ok : {d : ℕ} {S : List ℕ} → d ≤ 8 → Arrangement d S →
 unfolding startSigns
 start-walk-ok {d} h a =
     walk-in-order (startSigns d) h a (length-replicate d (pos 1))
-    (λ j l. inl (getD-replicate d j (pos 1) (pos 0) (omega (arith, length-replicate d (pos 1)))))
+    (λ j l. inl (getD-replicate d j (pos 1) (pos 0) l))
 
 -- A step that is not refused gives back a walk state in order ..
 pub walk-steps-on : (w : Walk) (n : ℕ) → stepRefusal w n ≡ 0 → walkOrder (stepWalk w n) ≡ 0
@@ -94,7 +88,7 @@ walk-steps-on w n e =
     let bits = bitsOf (w .d) n in
     walk-in-order _ (ok .dimension .1) (arrangement-step (ok .walk .places .columns) bits (length-tabulate (w .d) _))
     (length-turn (walkSigns w) _ bits ∙ long)
-    (turn-units (walkSigns w) _ bits (λ j h. let b : j < w .d = omega arith in rw getD-take (ok .walk .units j b)))
+    (turn-units (walkSigns w) _ bits long (λ j h. rw getD-take (ok .walk .units j h)))
 
 -- .. so it can be stepped again, with any bits.
 pub walk-steps-again : (w : Walk) (n m : ℕ) → stepRefusal w n ≡ 0 → m < 2 ^ w .d → stepRefusal (stepWalk w n) m ≡ 0

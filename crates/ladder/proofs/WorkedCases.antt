@@ -5,7 +5,7 @@ use Prim.Native.Nat.{ℕ, _+_, _^_}
 use mathlib.Core.Path.{_≡_, refl}
 use mathlib.Core.List.{List, [], _∷_, flatten}
 use Rattle.ladder.specs.Lists.{tabulate, joined, same, count, ones, odds, all}
-use Rattle.ladder.specs.Numbers.{numberOf, bitAt, byteOf, bytesFor, packBits, bitsLength}
+use Rattle.ladder.specs.Numbers.{numberOf, bitAt, byteOf, bytesFor, packBits, bitsLength, bitsAt}
 use Rattle.ladder.specs.Matrix.{Row, Matrix, addRows, doubleRow, bump, rowsFrom, startMatrix, pairsFrom, additions, step, orderFrom, stepOrder, matrixAfter, orderAfter}
 use Rattle.ladder.specs.Plan.{startOrder, stepBits, matrixIn, orderIn, lastMatrix, endOrder, answerRow}
 use Rattle.ladder.specs.Encoding.{scalarBit, xor, dealt, deal, picked, passed, rearrange, orderToGo, encodedStart, encodedBits, encodeWith, houseOrder, encode}
@@ -84,7 +84,7 @@ cases =
     ∷ []
 
 pub cases-hold : AllHold cases
-unfolding tabulate joined same count ones odds all numberOf bitAt byteOf bytesFor packBits bitsLength addRows doubleRow bump rowsFrom startMatrix pairsFrom additions step orderFrom stepOrder matrixAfter orderAfter startOrder stepBits matrixIn orderIn lastMatrix endOrder answerRow scalarBit xor dealt deal picked passed rearrange orderToGo encodedStart encodedBits encodeWith houseOrder encode difference operations entryOf block blockIn entriesIn signedByte entryBytes traceBytes doublings additionCount stepRegisters registersAfter modulus sumOf combination timesSigned signedSum plainRule differenceAdd differenceRule startFrom startRegisters plainRegisters differenceRegisters answerRegister flatten mark trailerSize bodyLength trailerByte dIn answerIn lIn distanceIn markIn bodyPlace bodyIn planIn twoBytes fourBytes fileOf _then_ unless within dim len eachOnce isArrangement order answer sameNumbers trailer distance planRefusal unpackRefusal
+unfolding tabulate joined same count ones odds all numberOf bitAt byteOf bytesFor packBits bitsLength addRows doubleRow bump rowsFrom startMatrix pairsFrom additions step orderFrom stepOrder matrixAfter orderAfter startOrder bitsAt matrixIn orderIn lastMatrix endOrder answerRow scalarBit xor dealt deal picked passed rearrange orderToGo encodedStart encodedBits encodeWith houseOrder encode difference operations entryOf block blockIn entriesIn signedByte entryBytes traceBytes doublings additionCount stepRegisters registersAfter modulus sumOf combination timesSigned signedSum plainRule differenceAdd differenceRule startFrom startRegisters plainRegisters differenceRegisters answerRegister flatten mark trailerSize bodyLength trailerByte dIn answerIn lIn distanceIn markIn bodyPlace bodyIn planIn twoBytes fourBytes fileOf _then_ unless within dim len eachOnce isArrangement order answer sameNumbers trailer distance planRefusal unpackRefusal
 cases-hold = (
   (refl, refl, refl),
   (

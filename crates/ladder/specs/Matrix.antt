@@ -65,6 +65,14 @@ pub record StateMatrix (d : ℕ) (B : Matrix) (S : List ℕ) : Type 0 where
 unfoldable pub signOf : ℕ → ℕ → ℤ
 signOf even odd = cond (eqb odd (suc even)) (pos 1) (negsuc 0)
 
+-- 1 or -1 ..
+abbrev pub IsUnit : ℤ → Type 0
+IsUnit s = (s ≡ pos 1) ⊎ (s ≡ negsuc 0)
+
+-- .. and so each of the first d signs of a list.
+abbrev pub Units : ℕ → List ℤ → Type 0
+Units d signs = (j : ℕ) → j < d → IsUnit (getD signs j (pos 0))
+
 -- The signs of a state matrix, by column number. Row 0 has every column's even entry, row d every column's odd one.
 unfoldable pub signsOf : ℕ → Matrix → List ℤ
 signsOf d B = tabulate d (λ j. signOf (entry B 0 j) (entry B d j))

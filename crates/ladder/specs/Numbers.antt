@@ -31,6 +31,11 @@ wordsOfAll k ns = flatten (map (wordsOf k) ns)
 unfoldable pub bitAt : List ℕ → ℕ → ℕ
 bitAt bytes n = getD bytes (n / 8) 0 / 2 ^ (7 - n % 8) % 2
 
+-- The bits of step s (the rules' step s+1) where each step has d: bit k (the rules' bit k+1) is bit number s*d + k. Of 72 D8 with d 2,
+-- step 0 has 01.
+unfoldable pub bitsAt : ℕ → List ℕ → ℕ → List ℕ
+bitsAt d bytes s = tabulate d (λ k. bitAt bytes (s * d + k))
+
 -- The byte whose bits are the first eight of a list, the most significant first; 0 for each that the list lacks.
 unfoldable pub byteOf : List ℕ → ℕ
 byteOf bits =

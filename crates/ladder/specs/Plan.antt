@@ -1,10 +1,9 @@
 -- A plan: d, l, a start order, the bits and an answer row, as they are lent or stored, and what a plan says.
 -- Assumes nothing.
-use Prim.Native.Nat.{ℕ, pred, _+_, _*_}
+use Prim.Native.Nat.{ℕ, pred}
 use mathlib.Core.List.{List, map}
 use lib.IntN.{ℤ}
-use Rattle.ladder.specs.Lists.{tabulate}
-use Rattle.ladder.specs.Numbers.{bitAt, wordsOfAll, valueWords}
+use Rattle.ladder.specs.Numbers.{bitsAt, wordsOfAll, valueWords}
 use Rattle.ladder.specs.Matrix.{Row, Matrix, row, matrixAfter, orderAfter, signsAfter}
 
 -- The start order's columns and the answer row are counted from 1 here, as the rules and the bytes have them.
@@ -23,10 +22,9 @@ planLent d l start bits answer = record { d = d; l = l; start = start; bits = bi
 unfoldable pub startOrder : Plan → List ℕ
 startOrder p = map pred (p .start)
 
--- The bits of step s (the rules' step s+1): bit k (the rules' bit k+1) is bit number s*d + k. Of bits 72 D8 with d 2, step 0 has 01.
--- For the steps of a plan, s below l, no filling bit is asked for.
-unfoldable pub stepBits : Plan → ℕ → List ℕ
-stepBits p s = tabulate (p .d) (λ k. bitAt (p .bits) (s * p .d + k))
+-- The bits of step s (the rules' step s+1). For the steps of a plan, s below l, no filling bit is asked for.
+abbrev pub stepBits : Plan → ℕ → List ℕ
+stepBits p s = bitsAt (p .d) (p .bits) s
 
 -- The matrix after n steps of a plan; after s steps is before step s (the rules' step s+1).
 unfoldable pub matrixIn : Plan → ℕ → Matrix

@@ -82,7 +82,9 @@ pub fn plan(d: u64, l: u64, start: &[u8], row: u64, shapes: u64) -> u64
     if early != OK {
         return early;
     }
-    first(order(d, start), answer(d, row))
+    let placed = order(d, start);
+    let reached = answer(d, row);
+    first(placed, reached)
 }
 
 // The refusal of a loose plan, lent as a start order and bits; `third` is the shape of the call's third buffer.

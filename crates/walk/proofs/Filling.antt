@@ -12,7 +12,8 @@ use Rattle.ladder.specs.Lists.{ones}
 use Rattle.ladder.specs.Matrix.{orderFrom, stepOrder}
 use Rattle.ladder.specs.Walk.{bitsOf}
 use Rattle.ladder.proofs.Step.{length-stepOrder}
-use Rattle.walk.proofs.StepBits.{length-bitsOf, bit-below, bits-left, no-bits-left, ones-left, ones-room}
+use Rattle.ladder.proofs.Walk.{length-bitsOf}
+use Rattle.walk.proofs.StepBits.{bit-below, bits-left, no-bits-left, ones-left, ones-room}
 use Rattle.walk.proofs.Runs.{sets-front}
 
 -- After k places: the rest of the order, written behind them, makes the whole.

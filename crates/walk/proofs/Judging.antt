@@ -24,7 +24,7 @@ use Rattle.ladder.specs.Refusals.{unless, shape, isArrangement, isUnit, isZero,
 use Rattle.ladder.proofs.Tests.{Says, reworded, eqb-says, and-says, all-says, past-says, isUnit-says, isZero-says}
 use Rattle.refuse.specs.Inner.{sized, lentRefusal}
 use Rattle.refuse.proofs.Laws.{lent-third}
-use Rattle.walk.specs.Inner.Ready.{Units}
+use Rattle.ladder.specs.Matrix.{Units}
 
 -- ---- a test and what it says
 

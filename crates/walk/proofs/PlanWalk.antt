@@ -10,7 +10,7 @@ use lib.IntN.{ℤ, pos}
 use lib.ListN.{length, getD, take, replicate, length-map, List·getD-append}
 use lib.Seq.{take-at}
 use Rattle.ladder.specs.Numbers.{bytesFor, bitsLength, traceLength}
-use Rattle.ladder.specs.Matrix.{Arrangement, startSigns, orderAfter, signsAfter}
+use Rattle.ladder.specs.Matrix.{Arrangement, startSigns, orderAfter, signsAfter, IsUnit, Units}
 use Rattle.ladder.specs.Plan.{Plan, startOrder, matrixIn, orderIn, signsIn}
 use Rattle.ladder.specs.Trace.{entriesIn, traceBytes, doublings, additionCount}
 use Rattle.ladder.specs.Walk.{Walk, walkOf}
@@ -20,7 +20,7 @@ use Rattle.ladder.proofs.Ladder.{sign-by-lower}
 use Rattle.ladder.proofs.Walk.{pred-suc}
 use Rattle.ladder.proofs.Refusals.{Accepted, WalkOk}
 use Rattle.ladder.proofs.Demand3.{state-in, signs-in}
-use Rattle.walk.specs.Inner.Ready.{Columns, IsUnit, Units, Ready}
+use Rattle.walk.specs.Inner.Ready.{Columns, Ready}
 use Rattle.walk.specs.Inner.WalkTrace.{walkEntries, CanTrace, Traced}
 use Rattle.walk.proofs.WalkEntries.{walk-trace}
 

@@ -6,7 +6,7 @@ use mathlib.Core.Logic.{_≢_, _↔_}
 use mathlib.Core.List.{List}
 use native.Mathlib.Omega.{arith}
 use lib.IntN.{pos}
-use lib.ListN.{replicate, List·getD-append}
+use lib.ListN.{length, replicate, List·getD-append}
 use Rattle.ladder.specs.Matrix.{startSigns, orderAfter, signsAfter}
 use Rattle.ladder.specs.Plan.{Plan, startOrder, stepBits, orderIn, signsIn}
 use Rattle.ladder.specs.Trace.{entriesIn, traceBytes}
@@ -54,8 +54,8 @@ module _ (p : Plan) (ok : Accepted p) where
   walk-ok-in s =
       let many = length-signsAfter (p .d) (startOrder p) (stepBits p) s in
       walk-in-order (signsIn p s) (ok .dHigh) (state-in p ok s .order) many
-      (λ j h. let b : j < p .d = omega arith in
-      rw (List·getD-append (signsIn p s) (replicate (8 - p .d) (pos 0)) (pos 0) j h) at (ready-in p ok s .signs j b))
+      (λ j h. let b : j < length (signsIn p s) = omega arith in
+      rw (List·getD-append (signsIn p s) (replicate (8 - p .d) (pos 0)) (pos 0) j b) at (ready-in p ok s .signs j h))
 
   -- .. its bits are a number of d bits ..
   bits-in : (s : ℕ) → numberOfBits (stepBits p s) < 2 ^ p .d

@@ -9,13 +9,13 @@ use native.Mathlib.Omega.{arith}
 use lib.ListN.{length, getD, length-append}
 use lib.Pow.{pow-mono}
 use Rattle.ladder.specs.Lists.{tabulate}
-use Rattle.ladder.specs.Numbers.{bitAt}
+use Rattle.ladder.specs.Numbers.{bitAt, bitsAt}
 use Rattle.ladder.specs.Walk.{bitsOf}
 use Rattle.ladder.proofs.Lists.{length-tabulate, tabulate-add}
 use Rattle.ladder.proofs.Numbers.{tabulate-below}
 use Rattle.ladder.proofs.Bits.{bitAt-below}
 use Rattle.ladder.proofs.Walk.{numberOfBits, numberOfBits-below, bitsOf-numberOfBits}
-use Rattle.walk.specs.Inner.ReadBits.{bitsAt, ReadBits}
+use Rattle.walk.specs.Inner.ReadBits.{ReadBits}
 
 -- One bit more doubles the number and adds the bit.
 numberOfBits-more : (r : List ℕ) (b : ℕ) → numberOfBits (r ++ (b ∷ [])) ≡ numberOfBits r * 2 + b

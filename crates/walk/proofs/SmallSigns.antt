@@ -6,7 +6,7 @@ use lib.IntN.{ℤ, pos, negℤ, _-ℤ_}
 use mir.Syntax.{w8}
 use mir.Val.{SFits, toZ, ofZ}
 use mir.Facts.{sfits-lit}
-use Rattle.walk.specs.Inner.Ready.{IsUnit}
+use Rattle.ladder.specs.Matrix.{IsUnit}
 
 pub unit-kept : (s : ℤ) → IsUnit s → toZ w8 (ofZ w8 s) ≡ s
 unit-kept s = ⊎-elim (λ e. rw e) (λ e. rw e)

@@ -9,30 +9,22 @@ use lib.ListN.{length, getD, drop, length-drop, drop-of-length-le}
 use lib.Seq.{drop-cons}
 use Rattle.ladder.specs.Lists.{ones}
 use Rattle.ladder.specs.Walk.{bitsOf}
-use Rattle.ladder.proofs.Lists.{length-tabulate, getD-tabulate, ones-le}
+use Rattle.ladder.proofs.Lists.{ones-le}
 use Rattle.ladder.proofs.Numbers.{tabulate-below}
+use Rattle.ladder.proofs.Walk.{length-bitsOf}
 
 module _ (d n : ℕ) where
-  -- There are d of them ..
-  pub length-bitsOf : length (bitsOf d n) ≡ d
-  unfolding bitsOf
-  length-bitsOf = length-tabulate d (λ k. n / 2 ^ (d - suc k) % 2)
-
-  pub bit-is : (k : ℕ) → k < d → getD (bitsOf d n) k 0 ≡ n / 2 ^ (d - suc k) % 2
-  unfolding bitsOf
-  bit-is k h = getD-tabulate d (λ i. n / 2 ^ (d - suc i) % 2) k 0 h
-
-  -- .. and each is 0 or 1.
+  -- Each is 0 or 1.
   pub bit-below : (k : ℕ) → getD (bitsOf d n) k 0 < 2
   unfolding bitsOf
   bit-below = tabulate-below 2 d _ (omega arith) (λ k h. omega arith)
 
   -- The bits from bit k on are bit k and the bits after it.
   pub bits-left : (k : ℕ) → k < d → drop k (bitsOf d n) ≡ getD (bitsOf d n) k 0 ∷ drop (suc k) (bitsOf d n)
-  bits-left k h = drop-cons (bitsOf d n) k 0 (omega (arith, length-bitsOf))
+  bits-left k h = drop-cons (bitsOf d n) k 0 (omega (arith, length-bitsOf d n))
 
   pub no-bits-left : (k : ℕ) → d ≤ k → drop k (bitsOf d n) ≡ []
-  no-bits-left k h = drop-of-length-le (bitsOf d n) {i = k} (omega (arith, length-bitsOf))
+  no-bits-left k h = drop-of-length-le (bitsOf d n) {i = k} (omega (arith, length-bitsOf d n))
 
   -- The ones from bit k on: bit k and the ones after it ..
   pub ones-left : (k : ℕ) → k < d → ones (drop k (bitsOf d n)) ≡ getD (bitsOf d n) k 0 + ones (drop (k + 1) (bitsOf d n))
@@ -50,4 +42,4 @@ module _ (d n : ℕ) where
   no-ones-left k h = ap ones (no-bits-left k h)
 
   pub ones-room : (k : ℕ) → k ≤ d → ones (drop k (bitsOf d n)) + k ≤ d
-  ones-room k h = omega (arith, ones-le (drop k (bitsOf d n)), length-drop k (bitsOf d n), length-bitsOf)
+  ones-room k h = omega (arith, ones-le (drop k (bitsOf d n)), length-drop k (bitsOf d n), length-bitsOf d n)

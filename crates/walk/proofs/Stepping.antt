@@ -10,15 +10,14 @@ use lib.IntN.{ℤ, pos, negℤ}
 use lib.ListN.{length, getD, take, replicate, List·getD-append, List·getD-eq-default}
 use lib.Seq.{take-at, length-take-le, getD-take}
 use Rattle.ladder.specs.Lists.{ones}
-use Rattle.ladder.specs.Matrix.{Arrangement, orderFrom, stepOrder, turn, stepSigns}
+use Rattle.ladder.specs.Matrix.{Arrangement, orderFrom, stepOrder, turn, stepSigns, IsUnit, Units}
 use Rattle.ladder.specs.Walk.{Walk, bitsOf, walkOf, orderOf, walkSigns, stepWalk}
 use Rattle.ladder.proofs.Lists.{ones-le, getD-map}
 use Rattle.ladder.proofs.Step.{length-stepOrder}
 use Rattle.ladder.proofs.Order.{place-of, arrangement-step}
 use Rattle.ladder.proofs.Signs.{turned, turn-at, length-turn}
-use Rattle.ladder.proofs.Walk.{pred-suc}
-use Rattle.walk.specs.Inner.Ready.{Columns, IsUnit, Units, Ready}
-use Rattle.walk.proofs.StepBits.{length-bitsOf}
+use Rattle.ladder.proofs.Walk.{pred-suc, length-bitsOf}
+use Rattle.walk.specs.Inner.Ready.{Columns, Ready}
 
 -- ---- orders
 

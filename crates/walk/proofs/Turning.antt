@@ -14,7 +14,7 @@ use Rattle.ladder.proofs.Lists.{getD-map}
 use Rattle.ladder.proofs.Order.{place-of, place-once}
 use Rattle.ladder.proofs.Signs.{turned, turn-at, length-turn}
 use Rattle.walk.specs.Inner.Ready.{Columns}
-use Rattle.walk.proofs.StepBits.{length-bitsOf}
+use Rattle.ladder.proofs.Walk.{length-bitsOf}
 
 -- The column at place k, counted from 0.
 abbrev pub column : ℕ → List ℕ → ℕ → ℕ

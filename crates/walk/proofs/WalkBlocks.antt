@@ -12,11 +12,10 @@ use Rattle.ladder.specs.Trace.{Entry, operations, entryOf, block, traceBytes, d
 use Rattle.ladder.specs.Walk.{Walk, bitsOf, walkOf, orderOf, walkSigns, stepWalk}
 use Rattle.ladder.proofs.Step.{length-stepOrder, length-additions}
 use Rattle.ladder.proofs.Trace.{doublings-append, additionCount-append, block-doublings, block-additions, traceBytes-append}
-use Rattle.ladder.proofs.Walk.{order-of-walk}
+use Rattle.ladder.proofs.Walk.{order-of-walk, length-bitsOf}
 use Rattle.walk.specs.Inner.Ready.{Ready}
 use Rattle.walk.specs.Inner.ReadBits.{ReadBits}
 use Rattle.walk.specs.Inner.WalkTrace.{filled, walkBlock, walkEntries}
-use Rattle.walk.proofs.StepBits.{length-bitsOf}
 use Rattle.walk.proofs.Stepping.{ready-step}
 use Rattle.walk.proofs.Reading.{readFrom, read-all}
 use Rattle.walk.proofs.Blocks.{block-length}

@@ -14,7 +14,7 @@ use Rattle.ladder.specs.Plan.{Plan, startOrder, stepBits, orderIn, signsIn}
 use Rattle.ladder.specs.Trace.{difference, operations, entryOf, block, blockIn, entriesIn, traceBytes}
 use Rattle.ladder.specs.Walk.{walkOf}
 use Rattle.ladder.proofs.Lists.{joined-same}
-use Rattle.ladder.proofs.Step.{rowX, rowY, length-additions, additions-x, additions-y, length-stepOrder}
+use Rattle.ladder.proofs.Step.{rowX, rowY, length-additions, additions-x, additions-y, length-stepOrder, noPair}
 use Rattle.ladder.proofs.Stairs.{Stairs, stairs, new-order}
 use Rattle.ladder.proofs.Signs.{getD-signsOf}
 use Rattle.ladder.proofs.Vectors.{length-difference, difference-at, sub-le, vector-next}
@@ -23,13 +23,10 @@ use Rattle.ladder.proofs.Trace.{traceBytes-joined}
 use Rattle.ladder.proofs.Walk.{order-of-walk, signs-of-walk, length-orderAfter, length-signsAfter}
 use Rattle.ladder.proofs.Refusals.{Accepted}
 use Rattle.ladder.proofs.Demand3.{state-in, signs-in}
-use Rattle.walk.specs.Inner.ReadBits.{bitsAt}
+use Rattle.ladder.specs.Numbers.{bitsAt}
 use Rattle.walk.specs.Inner.WalkTrace.{filled, walkBlock, walkEntries}
 
 -- ---- one step
-
-noPair : Pair
-noPair = record { x = 0; y = 0 }
 
 module _ {d : ℕ} {B : Matrix} {S : List ℕ} (C : Stairs d B S) (r : List ℕ) (long : length r ≡ d) where
   abbrev vectorAt : ℕ → List ℤ
@@ -113,7 +110,7 @@ module _ (p : Plan) (ok : Accepted p) where
   -- The entries of the walk from the state before step s are the plan's blocks from step s on.
   pub walk-entries : (n s : ℕ)
       → walkEntries (walkOf (p .d) (orderIn p s) (signsIn p s)) (p .bits) s n ≡ joined n (λ i. blockIn p (s + i))
-  unfolding walkEntries joined bitsAt stepBits orderIn signsIn orderAfter signsAfter
+  unfolding walkEntries joined orderIn signsIn orderAfter signsAfter
   walk-entries zero s = refl
   walk-entries (suc n) s =
       entries-of (p .d) (orderIn p s) (signsIn p s) (p .bits) s n (stepBits p s) (order-places s) (signs-places s) refl

@@ -5,9 +5,9 @@ ghost use mathlib.Core.List.{_++_, map};
 ghost use Prim.Native.Nat.{pred, _-_, _≤_};
 ghost use lib.IntN.{pos};
 ghost use lib.ListN.{take, replicate};
-ghost use Rattle.ladder.specs.Matrix.{turn};
+ghost use Rattle.ladder.specs.Matrix.{turn, Units};
 ghost use Rattle.ladder.specs.Walk.{bitsOf};
-ghost use Rattle.walk.specs.Inner.Ready.{Columns, Units};
+ghost use Rattle.walk.specs.Inner.Ready.{Columns};
 
 // The signs of columns 1..d, those turned that stand at a place of the new order where the bit is 1.
 pub fn next_signs(d: usize, signs: [i8; 8], order: [u8; 8], r: u64) -> [i8; 8]

@@ -8,7 +8,7 @@ use Rattle.ladder.specs.Encoding.{picked, passed}
 use Rattle.encode.specs.declared.order.Parted.{Parted}
 
 -- The first d places hold columns.
-pub record Columns (d : ℕ) (order : List ℕ) : Type 0 where
+pub record ColumnsIn (d : ℕ) (order : List ℕ) : Type 0 where
   pub dHigh : d ≤ 8
   pub inside : (k : ℕ) → k < d → getD order k 0 < d
 

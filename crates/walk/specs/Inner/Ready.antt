@@ -1,12 +1,11 @@
 -- A walk state that can be stepped.
 -- Assumes nothing.
-use Prim.Native.Nat.{ℕ, suc, pred, _-_, _≤_, _<_}
+use Prim.Native.Nat.{ℕ, suc, pred, _-_, _≤_}
 use mathlib.Core.Path.{_≡_}
-use mathlib.Core.Logic.{_⊎_}
 use mathlib.Core.List.{List, _++_, map}
-use lib.IntN.{ℤ, pos, negsuc}
-use lib.ListN.{take, getD, replicate}
-use Rattle.ladder.specs.Matrix.{Arrangement, startSigns}
+use lib.IntN.{pos}
+use lib.ListN.{take, replicate}
+use Rattle.ladder.specs.Matrix.{Arrangement, Units, startSigns}
 use Rattle.ladder.specs.Walk.{Walk}
 
 -- The first d places of an order are an arrangement of the columns 1..d.
@@ -14,14 +13,7 @@ pub record Columns (d : ℕ) (order : List ℕ) : Type 0 where
   pub columns : Arrangement d (map pred (take d order))
   pub counted : take d order ≡ map suc (map pred (take d order))
 
--- A sign is 1 or -1 ..
-abbrev pub IsUnit : ℤ → Type 0
-IsUnit s = (s ≡ pos 1) ⊎ (s ≡ negsuc 0)
-
--- .. and so are the signs of the first d columns.
-abbrev pub Units : ℕ → List ℤ → Type 0
-Units d signs = (j : ℕ) → j < d → IsUnit (getD signs j (pos 0))
-
+-- d is in range, the order an arrangement and the signs of the first d columns 1 or -1.
 pub record Ready (w : Walk) : Type 0 where
   pub low : 1 ≤ w .d
   pub high : w .d ≤ 8

@@ -10,7 +10,7 @@ use Rattle.ladder.specs.Matrix.{Pair, additions, stepOrder, stepSigns}
 use Rattle.ladder.specs.Trace.{Entry, traceBytes, doublings, additionCount}
 use Rattle.ladder.specs.Walk.{Walk, walkOf, orderOf, walkSigns}
 use Rattle.walk.specs.Inner.Ready.{Ready}
-use Rattle.walk.specs.Inner.ReadBits.{bitsAt}
+use Rattle.ladder.specs.Numbers.{bitsAt}
 
 -- The additions of the rows ps after one with vector v: each fills in the sign of the column at the next place of the order.
 unfoldable pub filled : List ℤ → List ℤ → List ℕ → List Pair → List Entry

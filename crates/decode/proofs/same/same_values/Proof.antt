@@ -9,7 +9,8 @@ use borrow.Author.Tests.{not-true, not-false, eqb-true, eqb-false}
 use lib.Dec.{eqb}
 use lib.ListN.{length, getD}
 use Rattle.ladder.specs.Numbers.{numbersOf}
-use Rattle.decode.proofs.Equality.{value-inside, number-at, part-lengths, numbers-agree, numbers-apart}
+use Rattle.ladder.proofs.Numbers.{own-within}
+use Rattle.decode.proofs.Equality.{lent-number, part-lengths, numbers-agree, numbers-apart}
 use Rattle.decode.proofs.same.same_values.Statement.{statement}
 use Rattle.decode.proofs.same.same_values.Tie as tie
 
@@ -24,23 +25,23 @@ loop-holds c = (omega arith, λ i h. absurd (not-suc-le-zero h))
 
 mul-a : tie.Need-mul-a Inv-loop μ-loop
 mul-a c =
-    omega (arith, value-inside (c .before .before .before .before .args .d) (c .before .before .before .before .args .k) (c .before .loop .j) (length (c .before .before .before .before .args .values .now)) (omega arith) (c .before .before .before .before .pre .1 .1 .1 .0))
+    omega (arith, own-within (c .before .before .before .before .args .d) (c .before .before .before .before .args .k) (length (c .before .before .before .before .args .values .now)) (c .before .loop .j) (c .before .before .before .before .pre .1 .1 .1 .0) (omega arith))
 
 add-b : tie.Need-add-b Inv-loop μ-loop
 add-b c =
-    omega (arith, value-inside (c .before .before .before .before .args .d) (c .before .before .before .before .args .k) (c .before .loop .j) (length (c .before .before .before .before .args .values .now)) (omega arith) (c .before .before .before .before .pre .1 .1 .1 .0))
+    omega (arith, own-within (c .before .before .before .before .args .d) (c .before .before .before .before .args .k) (length (c .before .before .before .before .args .values .now)) (c .before .loop .j) (c .before .before .before .before .pre .1 .1 .1 .0) (omega arith))
 
 mul-s : tie.Need-mul-s Inv-loop μ-loop
 mul-s c =
-    omega (arith, value-inside (c .before .before .before .before .args .d) (c .before .before .before .before .args .n) (c .before .loop .j) (length (c .before .before .before .before .args .scalars .now)) (omega arith) (c .before .before .before .before .pre .1 .1 .1 .1))
+    omega (arith, own-within (c .before .before .before .before .args .d) (c .before .before .before .before .args .n) (length (c .before .before .before .before .args .scalars .now)) (c .before .loop .j) (c .before .before .before .before .pre .1 .1 .1 .1) (omega arith))
 
 add-t : tie.Need-add-t Inv-loop μ-loop
 add-t c =
-    omega (arith, value-inside (c .before .before .before .before .args .d) (c .before .before .before .before .args .n) (c .before .loop .j) (length (c .before .before .before .before .args .scalars .now)) (omega arith) (c .before .before .before .before .pre .1 .1 .1 .1))
+    omega (arith, own-within (c .before .before .before .before .args .d) (c .before .before .before .before .args .n) (length (c .before .before .before .before .args .scalars .now)) (c .before .loop .j) (c .before .before .before .before .pre .1 .1 .1 .1) (omega arith))
 
 mul-same-value : tie.Need-mul-same-value Inv-loop μ-loop
 mul-same-value c =
-    omega (arith, value-inside (c .before .before .before .before .args .d) (c .before .before .before .before .args .k) (c .before .loop .j) (length (c .before .before .before .before .args .values .now)) (omega arith) (c .before .before .before .before .pre .1 .1 .1 .0))
+    omega (arith, own-within (c .before .before .before .before .args .d) (c .before .before .before .before .args .k) (length (c .before .before .before .before .args .values .now)) (c .before .loop .j) (c .before .before .before .before .pre .1 .1 .1 .0) (omega arith))
 
 sub-same-value : tie.Need-sub-same-value Inv-loop μ-loop
 sub-same-value c =
@@ -52,11 +53,11 @@ part-same-value-start c =
 
 part-same-value-end : tie.Need-part-same-value-end Inv-loop μ-loop
 part-same-value-end c =
-    omega (arith, value-inside (c .before .before .before .before .args .d) (c .before .before .before .before .args .k) (c .before .loop .j) (length (c .before .before .before .before .args .values .now)) (omega arith) (c .before .before .before .before .pre .1 .1 .1 .0))
+    omega (arith, own-within (c .before .before .before .before .args .d) (c .before .before .before .before .args .k) (length (c .before .before .before .before .args .values .now)) (c .before .loop .j) (c .before .before .before .before .pre .1 .1 .1 .0) (omega arith))
 
 mul-same-value-2 : tie.Need-mul-same-value-2 Inv-loop μ-loop
 mul-same-value-2 c =
-    omega (arith, value-inside (c .before .before .before .before .before .args .d) (c .before .before .before .before .before .args .n) (c .before .before .loop .j) (length (c .before .before .before .before .before .args .scalars .now)) (omega arith) (c .before .before .before .before .before .pre .1 .1 .1 .1))
+    omega (arith, own-within (c .before .before .before .before .before .args .d) (c .before .before .before .before .before .args .n) (length (c .before .before .before .before .before .args .scalars .now)) (c .before .before .loop .j) (c .before .before .before .before .before .pre .1 .1 .1 .1) (omega arith))
 
 sub-same-value-2 : tie.Need-sub-same-value-2 Inv-loop μ-loop
 sub-same-value-2 c =
@@ -68,20 +69,20 @@ part-same-value-start-2 c =
 
 part-same-value-end-2 : tie.Need-part-same-value-end-2 Inv-loop μ-loop
 part-same-value-end-2 c =
-    omega (arith, value-inside (c .before .before .before .before .before .args .d) (c .before .before .before .before .before .args .n) (c .before .before .loop .j) (length (c .before .before .before .before .before .args .scalars .now)) (omega arith) (c .before .before .before .before .before .pre .1 .1 .1 .1))
+    omega (arith, own-within (c .before .before .before .before .before .args .d) (c .before .before .before .before .before .args .n) (length (c .before .before .before .before .before .args .scalars .now)) (c .before .before .loop .j) (c .before .before .before .before .before .pre .1 .1 .1 .1) (omega arith))
 
 same-value-requires : tie.Need-same-value-requires Inv-loop μ-loop
 same-value-requires c κs =
     let s = c .before .before .before .before .before .before in
     part-lengths (c .before .before .before .loop .j) (s .args .k) (s .args .n) (s .args .values .now) (s .args .scalars .now) (s .pre .1 .1 .0)
-    (value-inside (c .before .before .before .before .before .before .args .d) (c .before .before .before .before .before .before .args .k) (c .before .before .before .loop .j) (length (c .before .before .before .before .before .before .args .values .now)) (omega arith) (c .before .before .before .before .before .before .pre .1 .1 .1 .0))
-    (value-inside (c .before .before .before .before .before .before .args .d) (c .before .before .before .before .before .before .args .n) (c .before .before .before .loop .j) (length (c .before .before .before .before .before .before .args .scalars .now)) (omega arith) (c .before .before .before .before .before .before .pre .1 .1 .1 .1))
+    (own-within (c .before .before .before .before .before .before .args .d) (c .before .before .before .before .before .before .args .k) (length (c .before .before .before .before .before .before .args .values .now)) (c .before .before .before .loop .j) (c .before .before .before .before .before .before .pre .1 .1 .1 .0) (omega arith))
+    (own-within (c .before .before .before .before .before .before .args .d) (c .before .before .before .before .before .before .args .n) (length (c .before .before .before .before .before .before .args .scalars .now)) (c .before .before .before .loop .j) (c .before .before .before .before .before .before .pre .1 .1 .1 .1) (omega arith))
 
 returns : tie.Need-returns Inv-loop μ-loop
 returns c =
     let s = c .before .before .before .before .before .before .before .before in
     let j = c .before .before .before .before .before .loop .j in
-    let e = ap₂ eqb (number-at (s .args .d) (s .args .k) j (s .args .values .now) (omega arith)) (number-at (s .args .d) (s .args .n) j (s .args .scalars .now) (omega arith)) in
+    let e = ap₂ eqb (lent-number (s .args .d) (s .args .k) j (s .args .values .now) (omega arith)) (lent-number (s .args .d) (s .args .n) j (s .args .scalars .now) (omega arith)) in
     numbers-apart (s .args .d) (s .args .k) (s .args .n) (s .args .values .now) (s .args .scalars .now) j
     (eqb-false _ _ (sym e ∙ sym (c .before .same-value .ensures) ∙ not-true _ (c .if1 .taken)))
 
@@ -95,7 +96,7 @@ loop-again : tie.Need-loop-again Inv-loop μ-loop
 loop-again c =
     let s = c .before .before .before .before .before .before .before .before in
     let j = c .before .before .before .before .before .loop .j in
-    let e = ap₂ eqb (number-at (s .args .d) (s .args .k) j (s .args .values .now) (omega arith)) (number-at (s .args .d) (s .args .n) j (s .args .scalars .now) (omega arith)) in
+    let e = ap₂ eqb (lent-number (s .args .d) (s .args .k) j (s .args .values .now) (omega arith)) (lent-number (s .args .d) (s .args .n) j (s .args .scalars .now) (omega arith)) in
     (omega arith, below-more _ _ (c .before .before .before .before .before .loop .inv .1) (eqb-true _ _ (sym e ∙ sym (c .before .same-value .ensures) ∙ not-false _ (c .if1 .left))))
 
 returns-2 : tie.Need-returns-2 Inv-loop μ-loop

@@ -2,7 +2,7 @@
 -- Assumes nothing.
 use native.Mathlib.Omega.{arith}
 use borrow.Author.Needs.{needs}
-use Rattle.encode.proofs.Kept.{Ready, ready, kept-refused, kept-accepted, house-arranged, few-odd}
+use Rattle.encode.proofs.Kept.{Encodable, encodable, kept-refused, kept-accepted, house-arranged, few-odd}
 use Rattle.encode.proofs.call.encode.Statement.{statement}
 use Rattle.encode.proofs.call.encode.Tie as tie
 
@@ -12,9 +12,9 @@ entry c = c .before .before .before .before .before .before
 
 -- Where nothing is refused, the core has what it asks.
 accepted : (c : tie.Else1)
-    → Ready (entry (c .before) .args .d) (entry (c .before) .args .l) (entry (c .before) .args .scalars .now)
+    → Encodable (entry (c .before) .args .d) (entry (c .before) .args .l) (entry (c .before) .args .scalars .now)
     (entry (c .before) .args .start .now) (entry (c .before) .args .bits .now)
-accepted c = ready _ _ _ _ _ _ (c .before .encode-refusal .ensures) (c .if1 .left)
+accepted c = encodable _ _ _ _ _ _ (c .before .encode-refusal .ensures) (c .if1 .left)
 
 encode-refusal-requires : tie.Need-encode-refusal-requires
 encode-refusal-requires c κs = search needs

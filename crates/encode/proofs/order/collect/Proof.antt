@@ -9,7 +9,7 @@ use lib.ListN.{take, length, length-set}
 use lib.Seq.{take-all, length-take-le}
 use Rattle.ladder.specs.Encoding.{picked, passed}
 use Rattle.ladder.specs.Walk.{bitsOf}
-use Rattle.encode.proofs.Digits.{length-bitsOf}
+use Rattle.ladder.proofs.Walk.{length-bitsOf}
 use Rattle.encode.proofs.Parting.{ones-next, zeros-next}
 use Rattle.encode.proofs.order.collect.Statement.{statement}
 use Rattle.encode.proofs.order.collect.Tie as tie

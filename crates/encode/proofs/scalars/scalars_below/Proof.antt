@@ -1,9 +1,8 @@
 -- `scalars_below` meets its contract. The loop's invariant: all scalars pass exactly if all from j on do. Rests on the top word
--- deciding (`below-fails`, `below-more`).
+-- deciding (`below-fails`, `below-goes`).
 -- Assumes nothing.
 use Prim.Native.Nat.{_≤_, _+_, _-_, _*_, _^_}
-use mathlib.Core.Path.{_≡_, refl, _∙_}
-use native.Mathlib.Numerals.{add-one}
+use mathlib.Core.Path.{_≡_, refl}
 use native.Mathlib.Omega.{arith}
 use borrow.Author.Needs.{needs}
 use lib.Dec.{ltb}
@@ -11,7 +10,7 @@ use lib.ListN.{drop, length}
 use Rattle.ladder.specs.Lists.{all}
 use Rattle.ladder.specs.Numbers.{numbersOf, scalarWords}
 use Rattle.encode.proofs.Words.{words-within, word-within}
-use Rattle.encode.proofs.Below.{all-none, below-fails, below-more}
+use Rattle.encode.proofs.Below.{below-fails, below-goes, below-ends}
 use Rattle.encode.proofs.scalars.scalars_below.Statement.{statement}
 use Rattle.encode.proofs.scalars.scalars_below.Tie as tie
 
@@ -67,7 +66,7 @@ returns c =
     below-fails (a .d) (a .l) (a .scalars .now) (λ i. omega (arith, c .before .shared-slice-known2 .given i)) (c .before .before .before .loop .j)
     (c .before .before .before .before .before .before .pre) (omega arith)
     (rw (c .before .before .before .before .scalar-words .ensures) at (c .if1 .taken))
-    ∙ c .before .before .before .loop .inv .1
+    (c .before .before .before .loop .inv .1)
 
 add-j : tie.Need-add-j Inv-loop μ-loop
 add-j c = search needs
@@ -79,18 +78,16 @@ loop-again : tie.Need-loop-again Inv-loop μ-loop
 loop-again c =
     let a = c .before .before .before .before .before .before .args in (
       omega arith,
-      rw (add-one (c .before .before .before .loop .j))
-          (below-more (a .d) (a .l) (a .scalars .now) (λ i. omega (arith, c .before .shared-slice-known2 .given i)) (c .before .before .before .loop .j)
+      below-goes (a .d) (a .l) (a .scalars .now) (λ i. omega (arith, c .before .shared-slice-known2 .given i)) (c .before .before .before .loop .j)
           (c .before .before .before .before .before .before .pre) (omega arith)
           (rw (c .before .before .before .before .scalar-words .ensures) at (c .if1 .left))
-          ∙ c .before .before .before .loop .inv .1),
+          (c .before .before .before .loop .inv .1),
     )
 
 returns-2 : tie.Need-returns-2 Inv-loop μ-loop
 returns-2 c =
     let a = c .before .before .before .before .args in
-    let done : c .before .loop .j ≡ a .d = omega arith in
-    all-none (a .d) (a .l) (a .scalars .now) ∙ rw done at (c .before .loop .inv .1)
+    below-ends (a .d) (a .l) (a .scalars .now) (c .before .loop .j) (omega arith) (c .before .loop .inv .1)
 
 pub scalars-below-spec : {M : Type 1} → statement M
 scalars-below-spec =

@@ -4,7 +4,7 @@ use mathlib.Core.Path.{sym, subst}
 use Rattle.ladder.specs.Walk.{bitsOf}
 use Rattle.walk.specs.Inner.Ready.{Columns}
 use Rattle.walk.specs.WalkState.{walkState}
-use Rattle.walk.proofs.StepBits.{length-bitsOf}
+use Rattle.ladder.proofs.Walk.{length-bitsOf}
 use Rattle.walk.proofs.Stepping.{columns-step, next-is}
 use Rattle.walk.proofs.advance.advance.Statement.{statement}
 use Rattle.walk.proofs.advance.advance.Tie as tie

@@ -12,7 +12,7 @@ use mir.Syntax.{w8}
 use mir.Val.{SFits}
 use Rattle.ladder.specs.Refusals.{isUnit}
 use Rattle.ladder.proofs.Tests.{isUnit-says}
-use Rattle.walk.specs.Inner.Ready.{IsUnit, Units}
+use Rattle.ladder.specs.Matrix.{IsUnit, Units}
 use Rattle.walk.proofs.Judging.{says-yes, says-no, says-true, says-false, units-says}
 use borrow.Author.Needs.{needs}
 use Rattle.walk.proofs.judge.units.Statement.{statement}

@@ -4,7 +4,7 @@ use Prim.Native.Nat.{_/_, _%_, _^_}
 use mathlib.Core.Path.{ap}
 use native.Mathlib.Omega.{arith}
 use borrow.Author.Needs.{needs}
-use Rattle.walk.proofs.StepBits.{bit-is}
+use Rattle.ladder.proofs.Walk.{getD-bitsOf}
 use Rattle.walk.proofs.number.bit.Statement.{statement}
 use Rattle.walk.proofs.number.bit.Tie as tie
 
@@ -18,7 +18,7 @@ shr-result : tie.Need-shr-result
 shr-result c = search needs
 
 returns : tie.Need-returns
-returns c = rw (bit-is (c .args .d) (c .args .r) (c .args .k) (search needs)) (ap (λ i. c .args .r / 2 ^ i % 2) (omega arith))
+returns c = rw (getD-bitsOf (c .args .d) (c .args .r) (c .args .k) (search needs)) (ap (λ i. c .args .r / 2 ^ i % 2) (omega arith))
 
 pub bit-spec : {M : Type 1} → statement M
 bit-spec = tie.close (tie.spec sub-result sub-result-2 shr-result returns)

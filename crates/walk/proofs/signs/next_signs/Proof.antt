@@ -8,7 +8,7 @@ use borrow.Author.Needs.{needs}
 use lib.IntN.{pos}
 use lib.ListN.{getD, length}
 use Rattle.ladder.specs.Walk.{bitsOf}
-use Rattle.walk.specs.Inner.Ready.{IsUnit}
+use Rattle.ladder.specs.Matrix.{IsUnit}
 use Rattle.walk.proofs.SmallSigns.{unit-kept, unit-fits, unit-turned}
 use Rattle.walk.proofs.StepBits.{bit-below}
 use Rattle.walk.proofs.Turning.{Turning, column-at, turning-start, turning-next, turning-end}

@@ -8,8 +8,8 @@ use Rattle.ladder.proofs.Operations.{CheckOk, check-none}
 use Rattle.ladder.proofs.Tests.{refusing-no, refusing-yes}
 use Rattle.decode.proofs.Decoded.{checkable, row-says}
 use borrow.Author.Needs.{needs}
-use Rattle.decode.proofs.calls.check.Statement.{statement}
-use Rattle.decode.proofs.calls.check.Tie as tie
+use Rattle.decode.proofs.checking.check.Statement.{statement}
+use Rattle.decode.proofs.checking.check.Tie as tie
 
 -- The function's entry, and the plan that is lent ..
 abbrev entry : tie.After-check-refusal → tie.Start

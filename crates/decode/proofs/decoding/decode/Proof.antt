@@ -9,8 +9,8 @@ use Rattle.ladder.proofs.Operations.{DecodeOk, decode-none}
 use Rattle.ladder.proofs.Tests.{refusing-no, refusing-yes}
 use Rattle.decode.proofs.Decoded.{at-start, started-d, row-decoded}
 use borrow.Author.Needs.{needs}
-use Rattle.decode.proofs.calls.decode.Statement.{statement}
-use Rattle.decode.proofs.calls.decode.Tie as tie
+use Rattle.decode.proofs.decoding.decode.Statement.{statement}
+use Rattle.decode.proofs.decoding.decode.Tie as tie
 
 -- The function's entry, and the plan that is lent ..
 abbrev entry : tie.After-decode-refusal → tie.Start

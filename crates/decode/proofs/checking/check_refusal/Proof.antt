@@ -9,8 +9,8 @@ use Rattle.ladder.specs.Refusals.{unless}
 use Rattle.refuse.specs.Inner.{lentRefusal, sized}
 use Rattle.decode.proofs.Judged.{check-early, check-shaped, check-late}
 use borrow.Author.Needs.{needs}
-use Rattle.decode.proofs.calls.check_refusal.Statement.{statement}
-use Rattle.decode.proofs.calls.check_refusal.Tie as tie
+use Rattle.decode.proofs.checking.check_refusal.Statement.{statement}
+use Rattle.decode.proofs.checking.check_refusal.Tie as tie
 
 -- The function's entry, and the plan that is lent.
 abbrev entry : tie.After-lent-plan → tie.Start

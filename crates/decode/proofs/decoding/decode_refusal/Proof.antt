@@ -3,8 +3,8 @@
 use Rattle.ladder.specs.Plan.{planLent}
 use Rattle.decode.proofs.Judged.{decode-judged}
 use borrow.Author.Needs.{needs}
-use Rattle.decode.proofs.calls.decode_refusal.Statement.{statement}
-use Rattle.decode.proofs.calls.decode_refusal.Tie as tie
+use Rattle.decode.proofs.decoding.decode_refusal.Statement.{statement}
+use Rattle.decode.proofs.decoding.decode_refusal.Tie as tie
 
 values-length-requires : tie.Need-values-length-requires
 values-length-requires c κs = search needs
