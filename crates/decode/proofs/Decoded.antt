@@ -1,32 +1,26 @@
 -- What decode leaves is the answer row of the last matrix: the walk's row is that row, for every plan that is not refused.
 -- Assumes nothing.
 use Prim.Native.Nat.{ℕ, pred, _-_, _*_}
-use mathlib.Core.Path.{_≡_, refl, sym, ap, ap₂, subst, _∙_}
-use mathlib.Core.Bool.{Bool, false}
+use mathlib.Core.Path.{_≡_, sym, ap, ap₂, subst, _∙_}
 use mathlib.Core.List.{List}
 use native.Mathlib.Numerals.{sub-one}
 use native.Mathlib.Omega.{arith}
-use lib.Dec.{eqb}
 use lib.ListN.{length, getD}
 use Rattle.ladder.specs.Lists.{tabulate}
 use Rattle.ladder.specs.Matrix.{startSigns, orderAfter}
-use Rattle.ladder.specs.Numbers.{numbersOf, scalarWords, scalarsLength, valuesLength, valueWords, wordsOfAll, bitsAt}
+use Rattle.ladder.specs.Numbers.{numbersOf, scalarWords, scalarsLength, valuesLength, valueWords, wordsOfAll}
 use Rattle.ladder.specs.Plan.{Plan, startOrder, stepBits, orderIn, endOrder, answerRow, valuesIn}
-use Rattle.ladder.specs.Refusals.{_then_, unless, shape, scalar, scalarsIn, sameNumbers, decodeRefusal, checkRefusal}
+use Rattle.ladder.specs.Refusals.{_then_, scalarsIn, sameNumbers}
 use Rattle.ladder.specs.Walk.{Walk, walkOf, orderOf}
 use Rattle.ladder.specs.Inner.Decoding.{walked, walkedEntry}
 use Rattle.ladder.proofs.Lists.{tabulate-same, tabulate-getD}
-use Rattle.ladder.proofs.Tests.{then-first, then-next, refusing-no, refusing-yes}
-use Rattle.ladder.proofs.Refusals.{Accepted, shape-none}
-use Rattle.ladder.proofs.Operations.{PlanOk, lent-none}
+use Rattle.ladder.proofs.Refusals.{Accepted}
+use Rattle.ladder.proofs.Operations.{PlanOk}
 use Rattle.ladder.proofs.Walk.{order-of-walk}
 use Rattle.ladder.proofs.Demand2.{answer-wide, answer-by-walk, decode-words}
 use Rattle.walk.specs.Inner.Ready.{started}
 use Rattle.walk.proofs.PlanWalk.{ready-start}
 use Rattle.walk.proofs.Starting.{started-is}
-use Rattle.refuse.specs.Inner.{sized, lentRefusal}
-use Rattle.refuse.proofs.Laws.{lent-third}
-use Rattle.decode.specs.Promise.{DecodePromise, CheckPromise}
 use Rattle.decode.specs.Inner.{AtStart, walkedRow, rowSame, Checkable}
 
 -- ---- the walk from a plan's start

@@ -12,7 +12,7 @@ use Rattle.ladder.specs.Plan.{Plan}
 use Rattle.ladder.specs.Refusals.{_then_, unless, shape, scalar, scalarsIn, decodeRefusal, checkRefusal}
 use Rattle.ladder.proofs.Tests.{then-first, then-next}
 use Rattle.ladder.proofs.Refusals.{shape-none}
-use Rattle.ladder.proofs.Operations.{PlanOk, lent-none}
+use Rattle.ladder.proofs.Operations.{lent-none}
 use Rattle.refuse.specs.Inner.{sized, lentRefusal}
 use Rattle.refuse.proofs.Laws.{lent-third}
 use Rattle.encode.specs.Inner.Scalars.{Shaped}

@@ -1,6 +1,7 @@
 pub mod Words
 pub mod Partly
 pub mod Lowering
+pub mod Above
 pub mod Raising
 pub mod Answering
 pub mod Decoded

@@ -2,13 +2,11 @@
 // above the row.
 use crate::digits::digit;
 use crate::values::increment;
-ghost use Prim.Native.Nat.{ℕ, suc, _+_, _*_, _%_, _^_, _≤_, _<_};
+ghost use Prim.Native.Nat.{ℕ, suc, _+_, _*_, _≤_, _<_};
 ghost use mathlib.Core.Path.{_≡_};
-ghost use lib.IntN.{pos};
-ghost use lib.ListN.{length, getD, take};
+ghost use lib.ListN.{getD, take};
 ghost use Rattle.ladder.specs.Lists.{count};
 ghost use Rattle.ladder.specs.Numbers.{wordsOfAll};
-ghost use Rattle.ladder.specs.Matrix.{Units};
 ghost use Rattle.decode.specs.Inner.{Raisable, raised, OneRaisable, raisedOne};
 
 // For each column, how often it stands among the first `row` places: 1 or 0.

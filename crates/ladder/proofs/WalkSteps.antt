@@ -7,7 +7,7 @@ use mathlib.Core.List.{List, [], _∷_, _++_, map}
 use native.Mathlib.Nat.{not-suc-le-zero}
 use native.Mathlib.Decide.{ℕ-discrete}
 use native.Mathlib.Omega.{arith}
-use lib.IntN.{ℤ, pos, negsuc, negℤ}
+use lib.IntN.{ℤ, pos, negℤ}
 use lib.ListN.{length, getD, set, replicate, length-map, length-set, length-replicate, getD-replicate, List·getD-append}
 use lib.Seq.{take-at, getD-take, getD-set-same, getD-set-other, length-take-le}
 use Rattle.ladder.specs.Matrix.{Arrangement, startSigns, turn, stepSigns, IsUnit, Units}

@@ -9,7 +9,7 @@ use lib.IntN.{ℤ, pos}
 use lib.ListN.{length, getD, drop, set, replicate, length-replicate, getD-replicate, drop-of-length-le}
 use lib.Seq.{drop-cons, ext-getD}
 use Rattle.ladder.specs.Lists.{joined, ones}
-use Rattle.ladder.specs.Matrix.{Matrix, row, entry, signsOf, startSigns, Pair, additions, stepOrder, stepSigns, orderAfter, signsAfter}
+use Rattle.ladder.specs.Matrix.{Matrix, row, entry, signsOf, startSigns, additions, stepOrder, stepSigns, orderAfter, signsAfter}
 use Rattle.ladder.specs.Plan.{Plan, startOrder, stepBits, orderIn, signsIn}
 use Rattle.ladder.specs.Trace.{difference, operations, entryOf, block, blockIn, entriesIn, traceBytes}
 use Rattle.ladder.specs.Walk.{walkOf}

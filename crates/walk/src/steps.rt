@@ -3,7 +3,6 @@ use crate::advance::advance;
 use crate::bits::step_bits;
 use crate::block::write_block;
 use crate::state::Walk;
-ghost use mathlib.Core.Path.{_≡_};
 ghost use Prim.Native.Nat.{_-_};
 ghost use Rattle.walk.specs.WalkState.{walkState};
 ghost use Rattle.walk.specs.Inner.WalkTrace.{walkEntries, CanTrace, Traced};

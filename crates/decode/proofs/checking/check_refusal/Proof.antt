@@ -1,6 +1,6 @@
 -- `check_refusal` meets its contract: what comes before the scalars, then the scalars (`check-early`, `check-late`).
 -- Assumes nothing.
-use mathlib.Core.Path.{_≡_, ap, _∙_}
+use mathlib.Core.Path.{_≡_, _∙_}
 use lib.Dec.{eqb}
 use lib.ListN.{length}
 use Rattle.ladder.specs.Numbers.{scalarsLength}

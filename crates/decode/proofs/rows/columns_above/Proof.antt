@@ -5,7 +5,7 @@ use mathlib.Core.Path.{_≡_, ap, _∙_}
 use lib.ListN.{getD, take}
 use Rattle.ladder.specs.Lists.{count}
 use native.Mathlib.Omega.{arith}
-use Rattle.decode.proofs.Raising.{Above, above-few, above-next, above-none}
+use Rattle.decode.proofs.Above.{Above, above-few, above-next, above-none}
 use Rattle.decode.proofs.rows.columns_above.Statement.{statement}
 use Rattle.decode.proofs.rows.columns_above.Tie as tie
 
