@@ -10,7 +10,7 @@ use Rattle.ladder.specs.Lists.{tabulate}
 use Rattle.ladder.specs.Matrix.{startSigns, orderAfter}
 use Rattle.ladder.specs.Numbers.{numbersOf, scalarWords, scalarsLength, valuesLength, valueWords, wordsOfAll}
 use Rattle.ladder.specs.Plan.{Plan, startOrder, stepBits, orderIn, endOrder, answerRow, valuesIn}
-use Rattle.ladder.specs.Refusals.{_then_, scalarsIn, sameNumbers}
+use Rattle.ladder.specs.Refusals.{scalarsIn, sameNumbers}
 use Rattle.ladder.specs.Walk.{Walk, walkOf, orderOf}
 use Rattle.ladder.specs.Inner.Decoding.{walked, walkedEntry}
 use Rattle.ladder.proofs.Lists.{tabulate-same, tabulate-getD}

@@ -1,20 +1,21 @@
 -- Numbers and their words: two numbers are the same exactly where all their words are.
 -- Assumes nothing.
 use Prim.Native.Nat.{ℕ, zero, suc, _+_, _-_, _*_, _/_, _%_, _^_, _≤_, _<_}
-use mathlib.Core.Path.{_≡_, refl, sym, ap, ap₂, subst, _∙_}
-use mathlib.Core.Bool.{Bool, true, false}
+use mathlib.Core.Path.{_≡_, refl, sym, ap, ap₂, _∙_}
+use mathlib.Core.Bool.{true, false}
 use mathlib.Core.List.{List, [], _∷_}
 use borrow.Author.Tests.{eq-eqb, ne-eqb}
 use native.Mathlib.Nat.{div-eq-of-lt, lt-of-lt-of-le}
 use native.Mathlib.Decide.{decLe}
 use native.Mathlib.Omega.{arith}
-use lib.Dec.{T, eqb}
+use lib.Dec.{eqb}
 use lib.ListN.{length, getD, take, drop, length-take, length-drop, List·getD-eq-default}
 use lib.Pow.{pow-mono}
 use lib.Seq.{ext-getD}
 use Rattle.ladder.specs.Numbers.{numberOf, numbersOf}
 use Rattle.ladder.specs.Refusals.{sameNumbers}
 use Rattle.ladder.proofs.Numbers.{wordsOf-numberOf, numberOf-below, length-numbersOf, number-at}
+use Rattle.ladder.proofs.Tests.{says-yes, says-no}
 use Rattle.ladder.proofs.FileRefusals.{sameNumbers-says}
 use Rattle.decode.proofs.Partly.{getD-wordsOf}
 
@@ -55,18 +56,10 @@ values-differ a b wa wb i n =
 -- ---- lists of numbers
 
 pub lists-same : (a b : List ℕ) → a ≡ b → true ≡ sameNumbers a b
-lists-same a b e = go (sameNumbers a b) refl (sameNumbers-says a b .passed e)
-  where
-    go : (t : Bool) → sameNumbers a b ≡ t → T t → true ≡ sameNumbers a b
-    go true q u = sym q
-    go false q u = absurd u
+lists-same a b e = says-yes (sameNumbers-says a b) e
 
 pub lists-differ : (a b : List ℕ) → (a ≡ b → ⊥) → false ≡ sameNumbers a b
-lists-differ a b n = go (sameNumbers a b) refl
-  where
-    go : (t : Bool) → sameNumbers a b ≡ t → false ≡ sameNumbers a b
-    go true q = absurd (n (sameNumbers-says a b .told (subst T (sym q) tt)))
-    go false q = sym q
+lists-differ a b n = says-no (sameNumbers-says a b) n
 
 -- ---- values among words
 

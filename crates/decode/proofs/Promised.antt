@@ -6,7 +6,6 @@ use mathlib.Core.Logic.{_≢_, _↔_}
 use mathlib.Core.Bool.{true, false}
 use mathlib.Core.List.{List, [], _∷_, _++_, flatten}
 use native.Mathlib.Omega.{arith}
-use lib.Dec.{T}
 use lib.ListN.{length, getD, drop, length-drop}
 use lib.Seq.{length-take-le}
 use Rattle.ladder.specs.Lists.{tabulate}
@@ -15,7 +14,7 @@ use Rattle.ladder.specs.Plan.{Plan, answerRow, valuesIn}
 use Rattle.ladder.specs.Refusals.{scalarsIn, planShape, shape}
 use Rattle.ladder.proofs.Lists.{map-tabulate, tabulate-same}
 use Rattle.ladder.proofs.Numbers.{wordsOf-numberOf, wordsOfAll-numbersOf, value-words-full, own, own-below, number-at, own-within}
-use Rattle.ladder.proofs.Tests.{then-none, refusing-no, refusing-yes}
+use Rattle.ladder.proofs.Tests.{says-true, then-none, refusing-no, refusing-yes}
 use Rattle.ladder.proofs.Refusals.{shape-none, accepted-shapes}
 use Rattle.ladder.proofs.FileRefusals.{sameNumbers-says}
 use Rattle.ladder.proofs.Operations.{EncodeOk, DecodeOk, CheckOk, PlanOk, decode-none, check-none}
@@ -56,7 +55,7 @@ module _ {p : Plan} {scalars : List ℕ} {r : Checked} (promise : CheckPromise p
       let said = promise .yes-is ∙ refusing-no _ _ _ none in
       let test = sameNumbers-says (answerRow p) (scalarsIn (p .d) (p .l) scalars) in (
         none,
-        (λ e. test .told (subst T (sym (sym said ∙ e)) tt), λ e. said ∙ sym (lists-same (answerRow p) (scalarsIn (p .d) (p .l) scalars) e)),
+        (λ e. says-true test (sym said ∙ e), λ e. said ∙ sym (lists-same (answerRow p) (scalarsIn (p .d) (p .l) scalars) e)),
       )
 
   -- .. an entry of 2^l equals none ..

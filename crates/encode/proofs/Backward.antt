@@ -3,7 +3,7 @@
 use Prim.Native.Nat.{ℕ, zero, suc, _+_, _-_, _*_, _%_, _^_, _≤_, _<_}
 use mathlib.Core.Path.{_≡_, refl, sym, ap, ap₂, subst, _∙_}
 use mathlib.Core.List.{List, _∷_, _++_, map, flatten, append-assoc, append-nil}
-use native.Mathlib.Nat.{sub-zero, suc-mul, zero-mul, zero-div, mul-le-mul-right}
+use native.Mathlib.Nat.{sub-zero, suc-mul, zero-mul, zero-div}
 use native.Mathlib.Numerals.{add-one}
 use native.Mathlib.Omega.{arith}
 use lib.ListN.{length, getD, take, replicate}
@@ -48,10 +48,6 @@ tabulate-zeros (suc n) f e = ap₂ (λ a rest. a ∷ rest) (e zero) (tabulate-ze
 zero-bits : (n : ℕ) → bitsOf n 0 ≡ replicate n 0
 unfolding bitsOf
 zero-bits n = tabulate-zeros n _ (λ k. ap (λ m. m % 2) (zero-div (2 ^ (n - suc k))))
-
--- The bits of a plan are at most 4,608.
-pub bits-bound : (d l : ℕ) → d ≤ 8 → l ≤ 576 → l * d ≤ 4608
-bits-bound d l h g = omega (arith, mul-le-mul-right d g)
 
 module _ (d l : ℕ) (bytes : List ℕ) (long : length bytes ≡ bitsLength d l) where
   -- The bits fit, with fewer than eight to fill.

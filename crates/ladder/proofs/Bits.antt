@@ -3,7 +3,7 @@
 use Prim.Native.Nat.{ℕ, zero, suc, _+_, _-_, _*_, _/_, _%_, _^_, _≤_, _<_}
 use mathlib.Core.Path.{_≡_, refl, sym, ap, ap₂, _∙_}
 use mathlib.Core.List.{List, [], _∷_, _++_}
-use native.Mathlib.Nat.{not-suc-le-zero, div-add-mod, div-div-eq-div-mul, pow-succ', two-pow-succ, zero-mul, suc-mul}
+use native.Mathlib.Nat.{not-suc-le-zero, div-add-mod, div-div-eq-div-mul, pow-succ', two-pow-succ, zero-mul, suc-mul, mul-le-mul}
 use native.Mathlib.Decide.{decLt}
 use native.Mathlib.Omega.{arith}
 use lib.Arith.{digits-lt}
@@ -190,3 +190,7 @@ bits-in-order bytes d (suc l) =
     ap (λ b. b ++ tabulate d (λ k. bitAt bytes (l * d + k))) (bits-in-order bytes d l)
     ∙ sym (tabulate-add (l * d) d (bitAt bytes))
     ∙ ap (λ n. tabulate n (bitAt bytes)) (sym (suc-mul l d))
+
+-- The bits of a plan are at most 4,608.
+pub bits-bound : (d l : ℕ) → d ≤ 8 → l ≤ 576 → l * d ≤ 4608
+bits-bound d l h g = omega (arith, mul-le-mul {n₁ = l} {m₁ = d} {n₂ = 576} {m₂ = 8} g h)

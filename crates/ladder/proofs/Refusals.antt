@@ -10,12 +10,12 @@ use lib.Dec.{eqb}
 use lib.IntN.{pos, negsuc}
 use lib.ListN.{length, length-map, take, getD, length-take, List·getD-eq-default}
 use lib.Seq.{getD-take}
-use Rattle.ladder.specs.Matrix.{Arrangement}
+use Rattle.ladder.specs.Matrix.{Arrangement, OrderOk}
 use Rattle.ladder.specs.Plan.{Plan, startOrder}
 use Rattle.ladder.specs.Registers.{modulus}
 use Rattle.ladder.specs.Walk.{Walk}
 use Rattle.ladder.specs.Refusals.{dim, len, shape, stepShape, scalar, order, isUnit, isZero, isEight, walkOrder, answer, tooLarge, element, trailer, distance, big, planRefusal, runRefusal}
-use Rattle.ladder.proofs.Tests.{Says, then-none, none-then, unless-is, unless-says, reworded, leb-says, eqb-says, and-says, within-says, all-says, past-says, below-says, OrderOk, isArrangement-says, isUnit-says, isZero-says}
+use Rattle.ladder.proofs.Tests.{Says, then-none, none-then, unless-is, unless-says, reworded, leb-says, eqb-says, and-says, within-says, all-says, past-says, below-says, isArrangement-says, isUnit-says, isZero-says}
 
 -- ---- the table: each refusal is 0 exactly where what it asks is so
 

@@ -13,7 +13,7 @@ use lib.IntN.{ℤ, pos, negsuc, pos-ne-negsuc}
 use lib.ListN.{length, drop, getD, length-map, List·getD-map, List·getD-eq-default}
 use lib.Seq.{getD-drop}
 use Rattle.ladder.specs.Lists.{same, count, all}
-use Rattle.ladder.specs.Matrix.{Arrangement}
+use Rattle.ladder.specs.Matrix.{OrderOk}
 use Rattle.ladder.specs.Refusals.{_then_, refusing, unless, within, eachOnce, isArrangement, isUnit, isZero}
 use Rattle.ladder.proofs.Lists.{getD-map}
 
@@ -114,6 +114,22 @@ leb-says m n = record { told = leb→le m n; passed = le→leb m n }
 pub eqb-says : (m n : ℕ) → Says (eqb m n) (m ≡ n)
 eqb-says m n = record { told = eqb→eq m n; passed = λ e. subst (λ k. T (eqb m k)) e (eqb-refl m) }
 
+-- It passes where that is so, and fails where it is not ..
+pub says-yes : {t : Bool} {P : Type 0} → Says t P → P → true ≡ t
+says-yes {t = true} s p = refl
+says-yes {t = false} s p = absurd (s .passed p)
+
+pub says-no : {t : Bool} {P : Type 0} → Says t P → (P → ⊥) → false ≡ t
+says-no {t = true} s n = absurd (n (s .told tt))
+says-no {t = false} s n = refl
+
+-- .. and the other way round.
+pub says-true : {t : Bool} {P : Type 0} → Says t P → t ≡ true → P
+says-true s e = s .told (rw e tt)
+
+pub says-false : {t : Bool} {P : Type 0} → Says t P → t ≡ false → P → ⊥
+says-false s e p = rw e at (s .passed p)
+
 -- Two tests say what both say.
 pub and-says : {a b : Bool} {P Q : Type 0} → Says a P → Says b Q → Says (a && b) (P × Q)
 and-says {a = true} p q = record { told = λ t. (p .told tt, q .told t); passed = λ t. q .passed (t .1) }
@@ -169,11 +185,6 @@ eachOnce-says (suc n) S =
     upTo t j (no ne) h = t .1 j (omega arith)
 
 -- ---- orders
-
--- An order that counts its columns from 1 is an arrangement of 1..d.
-pub record OrderOk (d : ℕ) (S : List ℕ) : Type 0 where
-  pub columns : Arrangement d (map pred S)
-  pub counted : S ≡ map suc (map pred S)
 
 -- Columns counted from 1 occur as often as those counted from 0.
 pub count-suc : (j : ℕ) (U : List ℕ) → count (suc j) (map suc U) ≡ count j U

@@ -10,14 +10,13 @@ use native.Mathlib.Omega.{arith}
 use lib.IntN.{ℤ, pos, negℤ}
 use lib.ListN.{length, getD, set, replicate, length-map, length-set, length-replicate, getD-replicate, List·getD-append}
 use lib.Seq.{take-at, getD-take, getD-set-same, getD-set-other, length-take-le}
-use Rattle.ladder.specs.Matrix.{Arrangement, startSigns, turn, stepSigns, IsUnit, Units}
+use Rattle.ladder.specs.Matrix.{Arrangement, startSigns, turn, stepSigns, IsUnit, Units, OrderOk}
 use Rattle.ladder.specs.Walk.{Walk, bitsOf, walkOf, orderOf, walkSigns, stepWalk}
 use Rattle.ladder.specs.Refusals.{walkOrder, stepRefusal}
 use Rattle.ladder.proofs.Lists.{length-tabulate}
 use Rattle.ladder.proofs.Order.{arrangement-step}
 use Rattle.ladder.proofs.Signs.{length-turn}
 use Rattle.ladder.proofs.Walk.{pred-suc, walk-places}
-use Rattle.ladder.proofs.Tests.{OrderOk}
 use Rattle.ladder.proofs.Refusals.{walkOrder-none}
 use Rattle.ladder.proofs.Operations.{step-none}
 

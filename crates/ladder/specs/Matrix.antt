@@ -47,6 +47,11 @@ pub record Arrangement (d : ℕ) (S : List ℕ) : Type 0 where
   pub inside : (k : ℕ) → k < d → getD S k 0 < d
   pub once : (j : ℕ) → j < d → count j S ≡ 1
 
+-- An order that counts its columns from 1 is an arrangement of 1..d.
+pub record OrderOk (d : ℕ) (S : List ℕ) : Type 0 where
+  pub columns : Arrangement d (map pred S)
+  pub counted : S ≡ map suc (map pred S)
+
 -- Row v minus row u is +1 or -1 in column j and 0 elsewhere.
 pub record DifferIn (j : ℕ) (u v : Row) : Type 0 where
   pub here : (getD v j 0 ≡ suc (getD u j 0)) ⊎ (getD u j 0 ≡ suc (getD v j 0))

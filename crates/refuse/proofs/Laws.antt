@@ -6,13 +6,13 @@ use mathlib.Core.Path.{_≡_, refl, sym, ap, ap₂, _∙_}
 use mathlib.Core.Bool.{Bool, true, false, cond, _&&_}
 use mathlib.Core.List.{List}
 use native.Mathlib.Omega.{arith}
-use borrow.Author.Tests.{le-leb, lt-leb, leb-true, eq-eqb, ne-eqb}
+use borrow.Author.Tests.{le-leb, lt-leb, eq-eqb, ne-eqb}
 use lib.Dec.{leb, eqb}
 use lib.ListN.{length, getD, drop, drop-of-length-le}
 use lib.Seq.{drop-cons}
 use native.Mathlib.Numerals.{add-one}
 use Rattle.ladder.specs.Lists.{all, same, count}
-use Rattle.ladder.proofs.Tests.{then-first, then-next, then-assoc}
+use Rattle.ladder.proofs.Tests.{says-true, and-says, within-says, then-first, then-next, then-assoc}
 use Rattle.ladder.specs.Numbers.{bitsLength, startLength}
 use Rattle.ladder.specs.Plan.{Plan, planLent}
 use Rattle.ladder.specs.Refusals.{_then_, unless, within, dim, len, order, answer, planRefusal, planShape, shape, eachOnce, isArrangement}
@@ -73,25 +73,10 @@ pub record InRange (d l : ℕ) : Type 0 where
   pub lHigh : l ≤ 576
 
 pub in-range : (d l : ℕ) → inRange d l ≡ true → InRange d l
-unfolding inRange within
+unfolding inRange
 in-range d l e =
-    let a = left (leb 1 d && leb d 8) (leb 1 l && leb l 576) e in
-    let b = right (leb 1 d && leb d 8) (leb 1 l && leb l 576) e in
-    record {
-      dLow = leb-true 1 d (left (leb 1 d) (leb d 8) a);
-      dHigh = leb-true d 8 (right (leb 1 d) (leb d 8) a);
-      lLow = leb-true 1 l (left (leb 1 l) (leb l 576) b);
-      lHigh = leb-true l 576 (right (leb 1 l) (leb l 576) b);
-    }
-  where
-    left : (s t : Bool) → s && t ≡ true → s ≡ true
-    left true t e = refl
-    left false t e = e
-
-    right : (s t : Bool) → s && t ≡ true → t ≡ true
-    right true t e = e
-    right false true e = refl
-    right false false e = e
+    let t = says-true (and-says (within-says 1 8 d) (within-says 1 576 l)) e in
+    record { dLow = t .0 .0; dHigh = t .0 .1; lLow = t .1 .0; lHigh = t .1 .1 }
 
 pub range-no : (d l : ℕ) → within 1 8 d ≡ false → inRange d l ≡ false
 unfolding inRange

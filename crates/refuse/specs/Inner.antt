@@ -14,6 +14,7 @@ planRead d l start answer = record { d = d; l = l; start = start; bits = []; ans
 unfoldable pub lentRefusal : Plan → ℕ → ℕ
 lentRefusal p third = planRefusal p (planShape p then third)
 
+-- Neither d nor l is refused.
 unfoldable pub inRange : ℕ → ℕ → Bool
 inRange d l = within 1 8 d && within 1 576 l
 

@@ -1,4 +1,6 @@
 // The length of each buffer, 0 where d or l is out of range: a huge d or l must not wrap on the way to its refusal.
+use crate::ranges::MOST_COLUMNS;
+use crate::ranges::MOST_STEPS;
 use crate::ranges::within;
 ghost use mathlib.Core.Path.{_≡_};
 ghost use Rattle.ladder.specs.Numbers.{scalarsLength, valuesLength, bitsLength, traceLength};
@@ -7,10 +9,10 @@ ghost use Rattle.refuse.specs.Inner.{inRange, sized};
 fn in_range(d: u64, l: u64) -> bool
     ensures { λ r. ⌜ r ≡ inRange d l ⌝ }
 {
-    if !within(1, 8, d) {
+    if !within(1, MOST_COLUMNS, d) {
         return false;
     }
-    within(1, 576, l)
+    within(1, MOST_STEPS, l)
 }
 
 pub fn scalars_length(d: u64, l: u64) -> u64

@@ -12,6 +12,7 @@ pub use lengths::values_length;
 pub use orders::arrangement;
 pub use table::OK;
 pub use table::ORDER;
+pub use table::ROW;
 pub use table::SCALAR;
 pub use table::SHAPE;
 pub use table::answer;

@@ -1,6 +1,12 @@
-// Whether a number lies in a range.
+// Whether a number lies in a range, and the ranges of d and l.
 ghost use mathlib.Core.Path.{_≡_};
 ghost use Rattle.ladder.specs.Refusals.{within};
+
+// d is 1 to 8.
+pub const MOST_COLUMNS: u64 = 8;
+
+// l is 1 to 576.
+pub const MOST_STEPS: u64 = 576;
 
 pub fn within(lo: u64, hi: u64, n: u64) -> bool
     ensures { λ r. ⌜ r ≡ within lo hi n ⌝ }

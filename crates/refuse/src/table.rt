@@ -1,6 +1,8 @@
 // A function for each number of the table that a plan can be refused by, and the first refusal that applies. Number 4 stands with the scalars.
 use crate::lengths::bits_length;
 use crate::orders::arrangement;
+use crate::ranges::MOST_COLUMNS;
+use crate::ranges::MOST_STEPS;
 use crate::ranges::within;
 ghost use mathlib.Core.Path.{_≡_};
 ghost use lib.Dec.{eqb};
@@ -39,13 +41,13 @@ fn outside(x: u64, lo: u64, hi: u64, n: u64) -> u64
 pub fn dim(d: u64) -> u64
     ensures { λ r. ⌜ r ≡ dim d ⌝ }
 {
-    outside(d, 1, 8, DIM)
+    outside(d, 1, MOST_COLUMNS, DIM)
 }
 
 pub fn len(l: u64) -> u64
     ensures { λ r. ⌜ r ≡ len l ⌝ }
 {
-    outside(l, 1, 576, LENGTH)
+    outside(l, 1, MOST_STEPS, LENGTH)
 }
 
 // A buffer of `have` elements that must have `want`.

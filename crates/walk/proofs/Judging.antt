@@ -1,8 +1,8 @@
 -- What the judging of a walk state, of a step's number and of a trace's buffers shows, in terms of the table's tests.
 -- Assumes nothing.
 use Prim.Native.Nat.{ℕ, _/_, _^_, _≤_, _<_}
-use mathlib.Core.Path.{_≡_, refl, sym, ap, _∙_}
-use mathlib.Core.Bool.{Bool, true, false, _&&_}
+use mathlib.Core.Path.{_≡_, sym, ap, _∙_}
+use mathlib.Core.Bool.{true, false, _&&_}
 use mathlib.Core.List.{List}
 use native.Mathlib.Decide.{decLt}
 use native.Mathlib.Nat.{div-lt-iff-lt-mul, div-eq-of-lt}
@@ -27,22 +27,6 @@ use Rattle.refuse.proofs.Laws.{lent-third}
 use Rattle.ladder.specs.Matrix.{Units}
 
 -- ---- a test and what it says
-
--- It passes where that is so, and fails where it is not ..
-pub says-yes : {t : Bool} {P : Type 0} → Says t P → P → true ≡ t
-says-yes {t = true} s p = refl
-says-yes {t = false} s p = absurd (s .passed p)
-
-pub says-no : {t : Bool} {P : Type 0} → Says t P → (P → ⊥) → false ≡ t
-says-no {t = true} s n = absurd (n (s .told tt))
-says-no {t = false} s n = refl
-
--- .. and the other way round.
-pub says-true : {t : Bool} {P : Type 0} → Says t P → t ≡ true → P
-says-true s e = s .told (rw e tt)
-
-pub says-false : {t : Bool} {P : Type 0} → Says t P → t ≡ false → P → ⊥
-says-false s e p = rw e at (s .passed p)
 
 -- ---- signs
 

@@ -3,7 +3,7 @@
 use Prim.Native.Nat.{ℕ, _+_, _*_, _^_, _≤_, _<_}
 use mathlib.Core.Path.{_≡_, refl, sym, ap, subst, _∙_}
 use mathlib.Core.List.{List, [], _∷_, _++_}
-use native.Mathlib.Nat.{add-zero, mul-assoc, mul-le-mul, pow-suc}
+use native.Mathlib.Nat.{add-zero, mul-assoc, pow-suc}
 use native.Mathlib.Numerals.{add-one}
 use native.Mathlib.Omega.{arith}
 use lib.ListN.{length, getD, length-append}
@@ -71,7 +71,3 @@ read-all bytes d s =
           ∙ bitsOf-numberOfBits r (bits-small bytes (s * d) d);
       below = read-below bytes (s * d) d;
     }
-
--- No step's first bit has a number beyond 4608.
-pub first-small : (s d : ℕ) → s < 576 → d ≤ 8 → s * d ≤ 4608
-first-small s d h l = omega (arith, mul-le-mul {n₁ = s} {m₁ = d} {n₂ = 576} {m₂ = 8} (omega arith) l)

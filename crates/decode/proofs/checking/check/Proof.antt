@@ -11,16 +11,12 @@ use borrow.Author.Needs.{needs}
 use Rattle.decode.proofs.checking.check.Statement.{statement}
 use Rattle.decode.proofs.checking.check.Tie as tie
 
--- The function's entry, and the plan that is lent ..
+-- The function's entry, and the plan that is lent.
 abbrev entry : tie.After-check-refusal → tie.Start
 entry c = c .before .before .before .before
 
 abbrev lent : tie.After-check-refusal → Plan
 lent c = let a = entry c .args in planLent (a .d) (a .l) (a .start .now) (a .bits .now) (a .row)
-
--- .. which is accepted, with scalars that fit and every buffer of its length, where nothing is refused.
-asked : (e : tie.Else1) → CheckOk (lent (e .before)) (entry (e .before) .args .scalars .now)
-asked e = check-none (lent (e .before)) (entry (e .before) .args .scalars .now) .0 (sym (e .before .check-refusal .ensures) ∙ e .if1 .left)
 
 check-refusal-requires : tie.Need-check-refusal-requires
 check-refusal-requires c κs = search needs
@@ -30,6 +26,10 @@ returns c = record {
   refusal-is = c .before .check-refusal .ensures;
   yes-is = sym (refusing-yes _ _ _ (c .if1 .taken));
 }
+
+-- Where nothing is refused, the plan is accepted, the scalars fit, and every buffer has its length.
+asked : (e : tie.Else1) → CheckOk (lent (e .before)) (entry (e .before) .args .scalars .now)
+asked e = check-none (lent (e .before)) (entry (e .before) .args .scalars .now) .0 (sym (e .before .check-refusal .ensures) ∙ e .if1 .left)
 
 start-walk-requires : tie.Need-start-walk-requires
 unfolding startLength

@@ -12,16 +12,12 @@ use borrow.Author.Needs.{needs}
 use Rattle.decode.proofs.decoding.decode.Statement.{statement}
 use Rattle.decode.proofs.decoding.decode.Tie as tie
 
--- The function's entry, and the plan that is lent ..
+-- The function's entry, and the plan that is lent.
 abbrev entry : tie.After-decode-refusal → tie.Start
 entry c = c .before .before .before .before .before
 
 abbrev lent : tie.After-decode-refusal → Plan
 lent c = let a = entry c .args in planLent (a .d) (a .l) (a .start .now) (a .bits .now) (a .row)
-
--- .. which is accepted, with every buffer of its length, where nothing is refused.
-asked : (e : tie.Else1) → DecodeOk (lent (e .before)) (entry (e .before) .args .values .now)
-asked e = decode-none (lent (e .before)) (entry (e .before) .args .values .now) .0 (sym (e .before .decode-refusal .ensures) ∙ e .if1 .left)
 
 decode-refusal-requires : tie.Need-decode-refusal-requires
 decode-refusal-requires c κs = search needs
@@ -34,6 +30,10 @@ returns c = record {
   refusal-is = c .before .decode-refusal .ensures;
   values-are = sym (refusing-yes _ _ _ (c .if1 .taken));
 }
+
+-- Where nothing is refused, the plan is accepted, and every buffer has its length.
+asked : (e : tie.Else1) → DecodeOk (lent (e .before)) (entry (e .before) .args .values .now)
+asked e = decode-none (lent (e .before)) (entry (e .before) .args .values .now) .0 (sym (e .before .decode-refusal .ensures) ∙ e .if1 .left)
 
 start-walk-requires : tie.Need-start-walk-requires
 unfolding startLength

@@ -10,12 +10,6 @@ use Rattle.encode.proofs.call.encode.Tie as tie
 abbrev entry : tie.After-encode-refusal → tie.Start
 entry c = c .before .before .before .before .before .before
 
--- Where nothing is refused, the core has what it asks.
-accepted : (c : tie.Else1)
-    → Encodable (entry (c .before) .args .d) (entry (c .before) .args .l) (entry (c .before) .args .scalars .now)
-    (entry (c .before) .args .start .now) (entry (c .before) .args .bits .now)
-accepted c = encodable _ _ _ _ _ _ (c .before .encode-refusal .ensures) (c .if1 .left)
-
 encode-refusal-requires : tie.Need-encode-refusal-requires
 encode-refusal-requires c κs = search needs
 
@@ -27,6 +21,12 @@ same-length-2 c = search needs
 
 returns : tie.Need-returns
 returns c = kept-refused _ _ _ _ _ _ (c .before .encode-refusal .ensures) (c .if1 .taken)
+
+-- Where nothing is refused, the core has what it asks.
+accepted : (c : tie.Else1)
+    → Encodable (entry (c .before) .args .d) (entry (c .before) .args .l) (entry (c .before) .args .scalars .now)
+    (entry (c .before) .args .start .now) (entry (c .before) .args .bits .now)
+accepted c = encodable _ _ _ _ _ _ (c .before .encode-refusal .ensures) (c .if1 .left)
 
 house-order-requires : tie.Need-house-order-requires
 house-order-requires c κs = accepted c .fitting

@@ -8,7 +8,8 @@ use native.Mathlib.Omega.{arith}
 use borrow.Author.Needs.{needs}
 use lib.ListN.{take}
 use Rattle.ladder.specs.Numbers.{numbersOf, scalarWords}
-use Rattle.encode.proofs.Backward.{Behind, bits-bound, fitting-bits, few-filling, nothing-behind, columns, room, one-more-behind, all-behind-order, all-behind-bits}
+use Rattle.ladder.proofs.Bits.{bits-bound}
+use Rattle.encode.proofs.Backward.{Behind, fitting-bits, few-filling, nothing-behind, columns, room, one-more-behind, all-behind-order, all-behind-bits}
 use Rattle.encode.proofs.steps.encode_with.Statement.{statement}
 use Rattle.encode.proofs.steps.encode_with.Tie as tie
 

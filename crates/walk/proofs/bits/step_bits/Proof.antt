@@ -6,7 +6,8 @@ use native.Mathlib.Omega.{arith}
 use borrow.Author.Needs.{needs}
 use Rattle.ladder.proofs.Bits.{bitAt-below}
 use Rattle.walk.specs.Inner.ReadBits.{ReadBits}
-use Rattle.walk.proofs.Reading.{readFrom, read-none, read-more, read-small, read-all, first-small}
+use Rattle.ladder.proofs.Bits.{bits-bound}
+use Rattle.walk.proofs.Reading.{readFrom, read-none, read-more, read-small, read-all}
 use Rattle.walk.proofs.bits.step_bits.Statement.{statement}
 use Rattle.walk.proofs.bits.step_bits.Tie as tie
 
@@ -17,7 +18,7 @@ abbrev μ-loop : tie.MeasureT-loop
 μ-loop bytes d s first r₀ k₀ r k = d - k
 
 mul-first : tie.Need-mul-first Inv-loop μ-loop
-mul-first c = omega (arith, first-small (c .before .args .s) (c .before .args .d) (c .before .pre .1 .0) (c .before .pre .0))
+mul-first c = omega (arith, bits-bound (c .before .args .d) (c .before .args .s) (c .before .pre .0) (omega (arith, c .before .pre .1 .0)))
 
 loop-holds : tie.Need-loop-holds Inv-loop μ-loop
 loop-holds c = (omega arith, sym (read-none _ _))
@@ -30,7 +31,7 @@ mul-r c =
 add-bit-at : tie.Need-add-bit-at Inv-loop μ-loop
 add-bit-at c =
     let a = c .before .before .before .args in
-    omega (arith, first-small (a .s) (a .d) (c .before .before .before .pre .1 .0) (c .before .before .before .pre .0))
+    omega (arith, bits-bound (a .d) (a .s) (c .before .before .before .pre .0) (omega (arith, c .before .before .before .pre .1 .0)))
 
 bit-at-requires : tie.Need-bit-at-requires Inv-loop μ-loop
 bit-at-requires c κs = search needs

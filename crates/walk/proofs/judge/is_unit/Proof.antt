@@ -5,8 +5,8 @@ use mathlib.Core.Path.{ap}
 use mir.Facts.{sfits-lit}
 use mir.Syntax.{w8}
 use mir.Val.{ofZ}
-use Rattle.ladder.proofs.Tests.{isUnit-says}
-use Rattle.walk.proofs.Judging.{says-yes, says-no, same-sign}
+use Rattle.ladder.proofs.Tests.{isUnit-says, says-yes, says-no}
+use Rattle.walk.proofs.Judging.{same-sign}
 use Rattle.walk.proofs.judge.is_unit.Statement.{statement}
 use Rattle.walk.proofs.judge.is_unit.Tie as tie
 

@@ -11,9 +11,9 @@ use mir.Facts.{toZ-ofZ}
 use mir.Syntax.{w8}
 use mir.Val.{SFits}
 use Rattle.ladder.specs.Refusals.{isUnit}
-use Rattle.ladder.proofs.Tests.{isUnit-says}
+use Rattle.ladder.proofs.Tests.{isUnit-says, says-yes, says-no, says-true, says-false}
 use Rattle.ladder.specs.Matrix.{IsUnit, Units}
-use Rattle.walk.proofs.Judging.{says-yes, says-no, says-true, says-false, units-says}
+use Rattle.walk.proofs.Judging.{units-says}
 use borrow.Author.Needs.{needs}
 use Rattle.walk.proofs.judge.units.Statement.{statement}
 use Rattle.walk.proofs.judge.units.Tie as tie

@@ -13,7 +13,7 @@ use borrow.Author.Needs.{needs}
 use Rattle.walk.proofs.trace.trace.Statement.{statement}
 use Rattle.walk.proofs.trace.trace.Tie as tie
 
--- The plan that the call is lent ..
+-- The plan that the call is lent.
 abbrev planIn : tie.Start → Plan
 planIn s = record {
   d = s .args .d;
@@ -22,13 +22,6 @@ planIn s = record {
   bits = s .args .bits .now;
   answer = s .args .row;
 }
-
--- .. which is accepted, with every buffer of its length, where nothing is refused.
-asked : (e : tie.Else1)
-    → TraceOk (planIn (e .before .before .before .before .before .before)) (e .before .before .before .before .before .before .args .out .now)
-asked e =
-    let s = e .before .before .before .before .before .before in
-    trace-none (planIn s) (s .args .out .now) .0 (sym (e .before .trace-refusal .ensures) ∙ e .if1 .left)
 
 trace-refusal-requires : tie.Need-trace-refusal-requires
 trace-refusal-requires c κs = search needs
@@ -45,6 +38,13 @@ returns c =
       additions-are = sym (refusing-yes _ _ _ no);
       trace-is = sym (refusing-yes _ _ _ no);
     }
+
+-- Where nothing is refused, it is accepted, and every buffer has its length.
+asked : (e : tie.Else1)
+    → TraceOk (planIn (e .before .before .before .before .before .before)) (e .before .before .before .before .before .before .args .out .now)
+asked e =
+    let s = e .before .before .before .before .before .before in
+    trace-none (planIn s) (s .args .out .now) .0 (sym (e .before .trace-refusal .ensures) ∙ e .if1 .left)
 
 start-walk-requires : tie.Need-start-walk-requires
 unfolding startLength
