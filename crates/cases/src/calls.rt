@@ -1,106 +1,141 @@
 // One line per call: what was lent, and after the colon what the call answered and what the lent output then holds.
+use crate::case::Case;
+use crate::part;
 use crate::show::bytes;
+use crate::show::end;
+use crate::show::head;
 use crate::show::number;
-use crate::show::signs;
+use crate::show::refusal;
 use crate::show::sums;
 use crate::show::text;
 use crate::show::words;
-use plan::Walk;
+use plan::TraceAnswer;
 
-fn head(label: &[u8], d: u64, l: u64) {
-    number(label, d);
-    number(b" ", l);
+// A longer trace is not written out, nor are the bits of its plan.
+const LONG: u64 = 84;
+
+fn bits(c: Case) {
+    if c.out <= LONG {
+        let lent = c.bits;
+        bytes(b" bits", part::bytes(&lent, c.bytes));
+    }
+}
+
+fn start_and_bits(c: Case) {
+    let start = c.start;
+    bytes(b" start", part::bytes(&start, c.starts));
+    bits(c);
+}
+
+// The scalars, or the values.
+fn numbers(label: &[u8], c: Case) {
+    let lent = c.words;
+    words(label, part::words(&lent, c.n));
 }
 
 // The plan that is lent.
-fn lent(label: &[u8], d: u64, l: u64, start: &[u8], bits: &[u8], row: u64) {
-    head(label, d, l);
-    bytes(b" start", start);
-    bytes(b" bits", bits);
-    number(b" row ", row);
+fn plan_of(label: &[u8], c: Case) {
+    head(label, c.d, c.l);
+    start_and_bits(c);
+    number(b" row ", c.row);
 }
 
-pub fn encode(d: u64, l: u64, scalars: &[u64], start: &mut [u8], bits: &mut [u8]) -> u64 {
-    head(b"encode ", d, l);
-    words(b" of", scalars);
-    let r = plan::encode(d, l, scalars, start, bits);
-    number(b": refusal ", r.refusal);
+pub fn encode(c: Case) {
+    head(b"encode ", c.d, c.l);
+    numbers(b" of", c);
+    let scalars = c.words;
+    let mut start = c.start;
+    let mut bits = c.bits;
+    let r = plan::encode(
+        c.d,
+        c.l,
+        part::words(&scalars, c.n),
+        part::bytes_out(&mut start, c.starts),
+        part::bytes_out(&mut bits, c.bytes),
+    );
+    refusal(r.refusal);
     number(b" row ", r.row);
-    bytes(b" start", start);
-    bytes(b" bits", bits);
-    text(b"\n");
-    r.row
+    let mut after = c;
+    after.start = start;
+    after.bits = bits;
+    start_and_bits(after);
+    end();
 }
 
-pub fn decode(d: u64, l: u64, start: &[u8], bits: &[u8], row: u64, values: &mut [u64]) {
-    lent(b"decode ", d, l, start, bits, row);
-    let refusal = plan::decode(d, l, start, bits, row, values);
-    number(b": refusal ", refusal);
-    words(b" values", values);
-    text(b"\n");
+pub fn decode(c: Case) {
+    plan_of(b"decode ", c);
+    let start = c.start;
+    let bits = c.bits;
+    let mut values = c.words;
+    refusal(plan::decode(
+        c.d,
+        c.l,
+        part::bytes(&start, c.starts),
+        part::bytes(&bits, c.bytes),
+        c.row,
+        part::words_out(&mut values, c.n),
+    ));
+    let mut after = c;
+    after.words = values;
+    numbers(b" values", after);
+    end();
 }
 
-pub fn check(d: u64, l: u64, start: &[u8], bits: &[u8], row: u64, scalars: &[u64]) {
-    lent(b"check ", d, l, start, bits, row);
-    words(b" of", scalars);
-    let r = plan::check(d, l, start, bits, row, scalars);
-    number(b": refusal ", r.refusal);
-    if r.yes {
+fn yes_or_no(yes: bool) {
+    if yes {
         text(b" yes\n");
     } else {
         text(b" no\n");
     }
 }
 
-pub fn trace(d: u64, l: u64, start: &[u8], bits: &[u8], row: u64, out: &mut [u8]) {
-    lent(b"trace ", d, l, start, bits, row);
-    let r = plan::trace(d, l, start, bits, row, out);
-    number(b": refusal ", r.refusal);
+pub fn check(c: Case) {
+    plan_of(b"check ", c);
+    numbers(b" of", c);
+    let start = c.start;
+    let bits = c.bits;
+    let scalars = c.words;
+    let r = plan::check(
+        c.d,
+        c.l,
+        part::bytes(&start, c.starts),
+        part::bytes(&bits, c.bytes),
+        c.row,
+        part::words(&scalars, c.n),
+    );
+    refusal(r.refusal);
+    yes_or_no(r.yes);
+}
+
+fn traced(r: TraceAnswer) {
+    refusal(r.refusal);
     number(b" doublings ", r.doublings);
     number(b" additions ", r.additions);
-    bytes(b" out", out);
-    text(b"\n");
 }
 
-fn state(label: &[u8], w: Walk) {
-    number(label, w.d);
-    bytes(b" order", &w.order);
-    signs(b" signs", &w.signs);
+// A trace, or the sums of one too long to write out.
+fn entries(out: &[u8]) {
+    if out.len() as u64 > LONG {
+        sums(b" sums ", out);
+    } else {
+        bytes(b" out", out);
+    }
 }
 
-pub fn step(w: Walk, number_of_bits: u64) {
-    state(b"step ", w);
-    number(b" by ", number_of_bits);
-    let r = w.step(number_of_bits);
-    number(b": refusal ", r.refusal);
-    let next = r.walk;
-    state(b" walk ", next);
-    text(b"\n");
-}
-
-// Encodes, decodes what came out, and holds it to the scalars.
-pub fn round(
-    d: u64,
-    l: u64,
-    scalars: &[u64],
-    start: &mut [u8],
-    bits: &mut [u8],
-    values: &mut [u64],
-) {
-    let row = encode(d, l, scalars, start, bits);
-    decode(d, l, start, bits, row, values);
-    check(d, l, start, bits, row, scalars);
-}
-
-// A trace too long to write out: its sums instead of its bytes.
-pub fn long_trace(d: u64, l: u64, start: &[u8], bits: &[u8], row: u64, out: &mut [u8]) {
-    head(b"trace ", d, l);
-    bytes(b" start", start);
-    number(b" row ", row);
-    let r = plan::trace(d, l, start, bits, row, out);
-    number(b": refusal ", r.refusal);
-    number(b" doublings ", r.doublings);
-    number(b" additions ", r.additions);
-    sums(b" sums ", out);
-    text(b"\n");
+pub fn trace(c: Case) {
+    plan_of(b"trace ", c);
+    let start = c.start;
+    let bits = c.bits;
+    let mut lent = [170u8; 51840];
+    let out = part::bytes_out(&mut lent, c.out);
+    traced(plan::trace(
+        c.d,
+        c.l,
+        part::bytes(&start, c.starts),
+        part::bytes(&bits, c.bytes),
+        c.row,
+        out,
+    ));
+    entries(out);
+    end();
 }

@@ -1,17 +1,18 @@
-// The rules' cases through the calls, one line per call. The expected output, ../stdout, was written from the rules and an independent
-// model of them, never from what this program writes.
+// The rules' cases through the calls, one line per call. The cases stand in ../stdin. What they must give, ../stdout, was written from the
+// rules and an independent model of them, never from what this program writes.
 mod calls;
-mod lengths;
-mod ranges;
-mod shapes;
+mod case;
+mod numbers;
+mod part;
 mod show;
-mod steps;
-mod worked;
+mod step;
+
+use libc::STDIN_FILENO;
 
 fn main() {
-    worked::run();
-    lengths::run();
-    steps::run();
-    shapes::run();
-    ranges::run();
+    let mut text = io::large_buffer();
+    io::read_full(STDIN_FILENO, &mut text);
+    let mut list = [0u64; 8192];
+    numbers::all(&text, &mut list);
+    case::run(&list);
 }

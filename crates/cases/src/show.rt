@@ -15,6 +15,21 @@ pub fn number(label: &[u8], n: u64) {
     io::print_decimal(STDOUT_FILENO, n);
 }
 
+// A line begins with a call's name, d and l.
+pub fn head(label: &[u8], d: u64, l: u64) {
+    number(label, d);
+    number(b" ", l);
+}
+
+// What the call answers begins with it.
+pub fn refusal(n: u64) {
+    number(b": refusal ", n);
+}
+
+pub fn end() {
+    text(b"\n");
+}
+
 // A label, and bytes, two digits each.
 pub fn bytes(label: &[u8], s: &[u8]) {
     text(label);
@@ -37,6 +52,7 @@ pub fn words(label: &[u8], s: &[u64]) {
     }
 }
 
+// A sign that no case has is not written, and its line then lacks it.
 fn sign(s: i8) {
     if s == 1 {
         text(b" +1");
@@ -46,8 +62,6 @@ fn sign(s: i8) {
         text(b" 0");
     } else if s == 2 {
         text(b" +2");
-    } else {
-        text(b" other");
     }
 }
 
