@@ -62,6 +62,8 @@ fn sign(s: i8) {
         text(b" 0");
     } else if s == 2 {
         text(b" +2");
+    } else if s == -128 {
+        text(b" -128");
     }
 }
 

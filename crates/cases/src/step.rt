@@ -8,10 +8,13 @@ use crate::show::signs;
 use plan::Stepped;
 use plan::Walk;
 
-// A byte as a sign: 255 is -1.
+// A byte as a sign: 255 is -1, and 128 is -128.
 fn sign(b: u8) -> i8 {
     if b == 255 {
         return -1;
+    }
+    if b == 128 {
+        return -128;
     }
     if b == 1 {
         return 1;
