@@ -28,13 +28,13 @@ fn start_and_bits(c: Case) {
 }
 
 // The scalars, or the values.
-fn numbers(label: &[u8], c: Case) {
+pub fn numbers(label: &[u8], c: Case) {
     let lent = c.words;
     words(label, part::words(&lent, c.n));
 }
 
 // The plan that is lent.
-fn plan_of(label: &[u8], c: Case) {
+pub fn plan_of(label: &[u8], c: Case) {
     head(label, c.d, c.l);
     start_and_bits(c);
     number(b" row ", c.row);

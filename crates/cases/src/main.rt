@@ -4,6 +4,7 @@ mod calls;
 mod case;
 mod numbers;
 mod part;
+mod runs;
 mod show;
 mod step;
 
@@ -12,7 +13,7 @@ use libc::STDIN_FILENO;
 fn main() {
     let mut text = io::large_buffer();
     io::read_full(STDIN_FILENO, &mut text);
-    let mut list = [0u64; 8192];
+    let mut list = [0u64; 16384];
     numbers::all(&text, &mut list);
     case::run(&list);
 }

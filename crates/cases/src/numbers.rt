@@ -41,10 +41,10 @@ fn next(s: &[u8], from: usize) -> Number {
 }
 
 // All numbers in order, and then zeros.
-pub fn all(s: &[u8], out: &mut [u64; 8192]) {
+pub fn all(s: &[u8], out: &mut [u64; 16384]) {
     let mut at = 0;
     let mut k = 0;
-    while k < 8192 {
+    while k < 16384 {
         let x = next(s, at);
         out[k] = x.value;
         at = x.next;

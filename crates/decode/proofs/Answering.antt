@@ -9,6 +9,7 @@ use native.Mathlib.Omega.{arith}
 use lib.IntN.{pos}
 use lib.ListN.{length, getD, take, drop, replicate, length-replicate, take-append-drop, List·getD-append, List·getD-eq-default}
 use lib.Seq.{take-take, getD-take}
+use Rattle.ladder.proofs.Bits.{length-bitsAt}
 use Rattle.ladder.specs.Lists.{tabulate, count}
 use Rattle.ladder.specs.Matrix.{Arrangement, orderAfter, signsAfter, Units}
 use Rattle.ladder.specs.Numbers.{numbersOf, wordsOfAll, scalarWords, valueWords, bitsAt}
@@ -21,7 +22,6 @@ use Rattle.ladder.proofs.Tests.{count-suc}
 use Rattle.ladder.proofs.Walk.{order-of-walk, length-orderAfter, length-signsAfter}
 use Rattle.walk.specs.Inner.Ready.{Ready, Columns}
 use Rattle.decode.specs.Inner.{Lowered, Raisable, raised, walkedRow, Checkable, rowSame}
-use Rattle.decode.proofs.Lowering.{length-bitsAt}
 use Rattle.decode.proofs.Words.{digit-small}
 
 -- ---- the number that a walk yields

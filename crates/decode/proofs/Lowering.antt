@@ -3,34 +3,23 @@
 use Prim.Native.Nat.{ℕ, zero, suc, _+_, _-_, _*_, _/_, _%_, _^_, _≤_, _<_}
 use mathlib.Core.Path.{_≡_, refl, sym, ap, subst, _∙_}
 use mathlib.Core.List.{List}
-use native.Mathlib.Nat.{zero-mod, zero-div, mul-le-mul-right, suc-mul, sub-self, mod-lt, lt-of-lt-of-le}
+use native.Mathlib.Nat.{zero-mod, zero-div, sub-self, mod-lt, lt-of-lt-of-le}
 use native.Mathlib.Omega.{arith}
 use lib.IntN.{pos}
 use lib.ListN.{length, getD, replicate, List·getD-append}
 use lib.Pow.{pow-pos, pow-mono}
 use Rattle.ladder.specs.Lists.{tabulate}
-use Rattle.ladder.specs.Matrix.{stepOrder, stepSigns, orderAfter, signsAfter, Units}
-use Rattle.ladder.specs.Numbers.{bitsLength, bytesFor, valueWords, wordsOfAll, bitsAt}
+use Rattle.ladder.specs.Matrix.{orderAfter, signsAfter, Units}
+use Rattle.ladder.specs.Numbers.{valueWords, wordsOfAll, bitsAt}
 use Rattle.ladder.specs.Walk.{Walk, walkOf, orderOf, stepWalk}
 use Rattle.ladder.specs.Inner.Decoding.{digit, walked}
-use Rattle.ladder.proofs.Lists.{length-tabulate}
-use Rattle.ladder.proofs.Walk.{step-of-walk, length-orderAfter, length-signsAfter}
+use Rattle.ladder.proofs.Walk.{length-signsAfter}
 use Rattle.walk.specs.Inner.Ready.{Ready}
 use Rattle.walk.specs.Inner.ReadBits.{ReadBits}
-use Rattle.walk.proofs.Stepping.{ready-step}
+use Rattle.walk.proofs.Stepping.{ready-step, walk-on}
 use Rattle.decode.specs.Inner.{stored, heldThen, storedThen, AtStart, Lowered}
 use Rattle.decode.proofs.Words.{length-stored, digit-small}
 use Rattle.decode.proofs.Partly.{Partly, heldDigits, stored-at, partly-next, partly-ends}
-
--- The steps of lent bytes have d bits each.
-pub length-bitsAt : (d : ℕ) (bytes : List ℕ) (s : ℕ) → length (bitsAt d bytes s) ≡ d
-unfolding bitsAt
-length-bitsAt d bytes s = length-tabulate d _
-
--- The bits of a step lie in the bytes.
-pub bits-room : (d l s n : ℕ) → s < l → n ≡ bitsLength d l → s * d + d ≤ 8 * n
-unfolding bitsLength bytesFor
-bits-room d l s n h e = omega (arith, mul-le-mul-right d h, suc-mul s d)
 
 pub record Lowering (start : Walk) (l : ℕ) (bytes : List ℕ) (w : Walk) (held values : List ℕ) (left : ℕ) : Type 0 where
   pub begun : AtStart start l bytes values
@@ -137,7 +126,7 @@ module _ {start : Walk} {l : ℕ} {bytes : List ℕ} {w : Walk} {held values : L
       → stepWalk w r
       ≡ walkOf (start .d) (orderAfter (orderOf start) (bitsAt (start .d) bytes) (l - (left - 1)))
       (signsAfter (start .d) (orderOf start) (bitsAt (start .d) bytes) (l - (left - 1)))
-  unfolding orderAfter signsAfter orderOf
+  unfolding orderOf
   walk-next h r bits =
       let d = start .d in
       let S = orderOf start in
@@ -145,9 +134,7 @@ module _ {start : Walk} {l : ℕ} {bytes : List ℕ} {w : Walk} {held values : L
       let n = l - left in
       let more : suc n ≡ l - (left - 1) = omega (arith, p .inside) in
       ap (λ v. stepWalk v r) (p .walk)
-      ∙ step-of-walk d (orderAfter S f n) (signsAfter d S f n) r
-      (length-orderAfter d S f (p .begun .ready .order .columns .long) (length-bitsAt d bytes) n) (length-signsAfter d S f n)
-      ∙ ap (λ b. walkOf d (stepOrder (orderAfter S f n) b) (stepSigns (signsAfter d S f n) (orderAfter S f n) b)) (bits .bits)
+      ∙ walk-on d S bytes n r (p .begun .ready .order .columns .long) bits
       ∙ ap (λ m. walkOf d (orderAfter S f m) (signsAfter d S f m)) more
 
   -- After one step more.

@@ -3,14 +3,14 @@
 use Prim.Native.Nat.{ℕ, zero, suc, _+_, _-_, _*_, _/_, _%_, _^_, _≤_, _<_}
 use mathlib.Core.Path.{_≡_, refl, sym, ap, ap₂, _∙_}
 use mathlib.Core.List.{List, [], _∷_, _++_}
-use native.Mathlib.Nat.{not-suc-le-zero, div-add-mod, div-div-eq-div-mul, pow-succ', two-pow-succ, zero-mul, suc-mul, mul-le-mul}
+use native.Mathlib.Nat.{not-suc-le-zero, div-add-mod, div-div-eq-div-mul, pow-succ', two-pow-succ, zero-mul, suc-mul, mul-le-mul, mul-le-mul-right}
 use native.Mathlib.Decide.{decLt}
 use native.Mathlib.Omega.{arith}
 use lib.Arith.{digits-lt}
 use lib.ListN.{length, getD, drop, drop-of-length-le, List·getD-eq-default, List·getD-append}
 use lib.Seq.{getD-append-add, getD-drop, ext-getD}
 use Rattle.ladder.specs.Lists.{tabulate, joined}
-use Rattle.ladder.specs.Numbers.{bitAt, byteOf, bytesFor, packBits, bitsAt}
+use Rattle.ladder.specs.Numbers.{bitAt, byteOf, bytesFor, packBits, bitsAt, bitsLength}
 use Rattle.ladder.specs.Plan.{Plan, stepBits}
 use Rattle.ladder.proofs.Lists.{length-tabulate, getD-tabulate, tabulate-same, tabulate-getD, tabulate-add, length-joined}
 use Rattle.ladder.proofs.Numbers.{tabulate-below, drop-below}
@@ -171,6 +171,16 @@ step-of-packed d l f e h s m =
     ∙ ap (λ n. tabulate n (λ k. getD (f s) k 0)) (sym (e s m))
     ∙ tabulate-getD (f s) 0
 
+-- The steps of lent bytes have d bits each ..
+pub length-bitsAt : (d : ℕ) (bytes : List ℕ) (s : ℕ) → length (bitsAt d bytes s) ≡ d
+unfolding bitsAt
+length-bitsAt d bytes s = length-tabulate d _
+
+-- .. which lie in the bytes.
+pub bits-room : (d l s n : ℕ) → s < l → n ≡ bitsLength d l → s * d + d ≤ 8 * n
+unfolding bitsLength bytesFor
+bits-room d l s n h e = omega (arith, mul-le-mul-right d h, suc-mul s d)
+
 -- The bits of a plan's step are 0 or 1.
 pub stepBits-below : (p : Plan) (s k : ℕ) → getD (stepBits p s) k 0 < 2
 unfolding bitsAt
@@ -178,8 +188,7 @@ stepBits-below p s = tabulate-below 2 (p .d) _ (omega arith) (λ k h. bitAt-belo
 
 -- A step has d bits.
 pub length-stepBits : (p : Plan) (s : ℕ) → length (stepBits p s) ≡ p .d
-unfolding bitsAt
-length-stepBits p s = length-tabulate (p .d) _
+length-stepBits p s = length-bitsAt (p .d) (p .bits) s
 
 -- The bits of all steps, one after the other, are the bits in number order.
 pub bits-in-order : (bytes : List ℕ) (d l : ℕ)

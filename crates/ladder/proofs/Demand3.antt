@@ -9,7 +9,7 @@ use native.Mathlib.Omega.{arith}
 use lib.IntN.{pos}
 use lib.ListN.{length, getD, length-map}
 use Rattle.ladder.specs.Lists.{ones}
-use Rattle.ladder.specs.Matrix.{Row, Matrix, row, entry, addRows, doubleRow, StateMatrix, signsOf, Pair, additions, step, matrixAfter, IsUnit}
+use Rattle.ladder.specs.Matrix.{Row, Matrix, row, entry, addRows, doubleRow, StateMatrix, signsOf, Pair, additions, step, matrixAfter, IsUnit, IsSmall}
 use Rattle.ladder.specs.Plan.{Plan, stepBits, matrixIn, orderIn, signsIn}
 use Rattle.ladder.specs.Trace.{difference, Entry, operations, entryOf, block, blockIn}
 use Rattle.ladder.specs.Registers.{modulus, plainRegisters, differenceRegisters}
@@ -19,7 +19,7 @@ use Rattle.ladder.proofs.Step.{rowY-inside, length-additions, additions
 use Rattle.ladder.proofs.Stairs.{stairs}
 use Rattle.ladder.proofs.Ladder.{state-after, signs-after, entry-bound}
 use Rattle.ladder.proofs.Bits.{length-stepBits, stepBits-below}
-use Rattle.ladder.proofs.Vectors.{IsSmall, vector-small, vector-not-zero, rows-apart, difference-at, sub-le}
+use Rattle.ladder.proofs.Vectors.{vector-small, vector-not-zero, rows-apart, difference-at, sub-le}
 use Rattle.ladder.proofs.Registers.{runs-agree}
 use Rattle.ladder.proofs.Refusals.{Accepted, run-accepted}
 

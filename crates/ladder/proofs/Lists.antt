@@ -56,6 +56,12 @@ tabulate-add (suc n) m f =
     ∙ ap (λ rest. tabulate n (λ k. f (suc k)) ++ rest)
     (tabulate-same m (λ k. f (suc (n + k))) (λ k. f (suc n + k)) (λ k h. ap f (sym (suc-add n k)))))
 
+-- A list of one element more.
+pub tabulate-suc : {A : Type 0} (n : ℕ) (f : ℕ → A) → tabulate (suc n) f ≡ tabulate n f ++ (f n ∷ [])
+unfolding tabulate
+tabulate-suc zero f = refl
+tabulate-suc (suc n) f = ap (λ rest. f zero ∷ rest) (tabulate-suc n (λ k. f (suc k)))
+
 -- ---- elements of a mapped list
 
 pub getD-map : {A B : Type 0} (f : A → B) (l : List A) (i : ℕ) (z : A) (w : B) → i < length l → getD (map f l) i w ≡ f (getD l i z)

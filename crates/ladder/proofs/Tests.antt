@@ -91,6 +91,12 @@ pub refusing-same : {A : Type 0} {m n : ℕ} {a b : A} (refused accepted : A) �
     → a ≡ refusing m refused accepted → b ≡ refusing n refused accepted → a ≡ b
 refusing-same refused accepted e x y = x ∙ ap (λ k. refusing k refused accepted) e ∙ sym y
 
+-- What is left is the same where what would be accepted is.
+pub refusing-accepted : {A : Type 0} (n : ℕ) (refused a b : A) → (n ≡ 0 → a ≡ b) → refusing n refused a ≡ refusing n refused b
+unfolding refusing
+refusing-accepted zero refused a b e = e refl
+refusing-accepted (suc n) refused a b e = refl
+
 -- ---- what tests say
 
 -- A test passes exactly where P is so.

@@ -12,7 +12,7 @@ use lib.Dec.{T, ltb, ltb→lt, nltb→le}
 use lib.IntN.{ℤ, pos, negsuc, subℕ}
 use lib.ListN.{length, getD, set, length-set, List·getD-eq-default}
 use lib.Seq.{ext-getD, getD-set-same, getD-set-other}
-use Rattle.ladder.specs.Matrix.{Row, Matrix, row, entry, signOf, stepOrder, IsUnit}
+use Rattle.ladder.specs.Matrix.{Row, Matrix, row, entry, signOf, stepOrder, IsUnit, IsSmall}
 use Rattle.ladder.specs.Trace.{difference}
 use Rattle.ladder.proofs.Lists.{length-tabulate, getD-tabulate}
 use Rattle.ladder.proofs.Step.{onesTo-le, onesTo-between, onesTo-all, onesTo-one, onesTo-zero, rowX, rowY, rowX-inside, rowY-inside, stepOrder-one, stepOrder-zero}
@@ -54,10 +54,6 @@ pub difference-at : (d : ℕ) (v u : Row) (j : ℕ) → j < d → getD (differen
 unfolding difference
 difference-at d v u j h = getD-tabulate d (λ i. subℕ (getD v i 0) (getD u i 0)) j (pos 0) h
 
--- A coefficient: -1, 0 or 1.
-pub IsSmall : ℤ → Type 0
-IsSmall s = (s ≡ pos 0) ⊎ IsUnit s
-
 module _ {d : ℕ} {B : Matrix} {S : List ℕ} (C : Stairs d B S) (x y : ℕ) (up : x ≤ y) (inside : y ≤ d) where
   -- A column that stands between rows x and y has its sign in the vector ..
   pub vector-between : (k : ℕ) → k < d → x ≤ k → k < y
@@ -87,7 +83,6 @@ module _ {d : ℕ} {B : Matrix} {S : List ℕ} (C : Stairs d B S) (x y : ℕ) (u
 
   -- The vector's coefficients are -1, 0 and 1 ..
   pub vector-small : (j : ℕ) → IsSmall (getD (difference d (row B y) (row B x)) j (pos 0))
-  unfolding IsSmall
   vector-small j = go (decLe (suc j) d)
     where
       at : (k : ℕ) → k < d → Dec (x ≤ k) → Dec (suc k ≤ y)

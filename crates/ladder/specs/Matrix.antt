@@ -74,7 +74,11 @@ signOf even odd = cond (eqb odd (suc even)) (pos 1) (negsuc 0)
 abbrev pub IsUnit : ℤ → Type 0
 IsUnit s = (s ≡ pos 1) ⊎ (s ≡ negsuc 0)
 
--- .. and so each of the first d signs of a list.
+-- .. or 0 besides ..
+abbrev pub IsSmall : ℤ → Type 0
+IsSmall s = (s ≡ pos 0) ⊎ IsUnit s
+
+-- .. and each of the first d signs of a list is 1 or -1.
 abbrev pub Units : ℕ → List ℤ → Type 0
 Units d signs = (j : ℕ) → j < d → IsUnit (getD signs j (pos 0))
 

@@ -3,11 +3,12 @@
 -- Assumes nothing.
 use Prim.Native.Nat.{ℕ, zero, suc, _+_, _-_, _≤_, _<_}
 use mathlib.Core.Path.{_≡_, refl, sym, ap, ap₂, _∙_}
+use mathlib.Core.Logic.{_≢_}
 use mathlib.Core.Bool.{Bool, true, false, cond, _&&_}
 use mathlib.Core.List.{List}
 use native.Mathlib.Omega.{arith}
 use borrow.Author.Tests.{le-leb, lt-leb, eq-eqb, ne-eqb}
-use lib.Dec.{leb, eqb}
+use lib.Dec.{leb, ltb, eqb}
 use lib.ListN.{length, getD, drop, drop-of-length-le}
 use lib.Seq.{drop-cons}
 use native.Mathlib.Numerals.{add-one}
@@ -15,7 +16,7 @@ use Rattle.ladder.specs.Lists.{all, same, count}
 use Rattle.ladder.proofs.Tests.{says-true, and-says, within-says, then-first, then-next, then-assoc}
 use Rattle.ladder.specs.Numbers.{bitsLength, startLength}
 use Rattle.ladder.specs.Plan.{Plan, planLent}
-use Rattle.ladder.specs.Refusals.{_then_, unless, within, dim, len, order, answer, planRefusal, planShape, shape, eachOnce, isArrangement}
+use Rattle.ladder.specs.Refusals.{_then_, unless, within, dim, len, order, answer, element, planRefusal, planShape, shape, eachOnce, isArrangement}
 use Rattle.refuse.specs.Inner.{inRange, sized, planRead, lentRefusal}
 
 -- ---- a range
@@ -164,6 +165,20 @@ arranged-inside d S e f =
 pub arranged-once : (d : ℕ) (S : List ℕ) → length S ≡ d → all (within 1 d) S ≡ true → isArrangement d S ≡ eachOnce d S
 unfolding isArrangement
 arranged-once d S e f = ap₂ (λ s t. s && t && eachOnce d S) (eq-eqb (length S) d e) f
+
+-- ---- elements
+
+-- A modulus of 0 has every word ..
+pub element-any : (m : ℕ) (es : List ℕ) → m ≡ 0 → element m es ≡ 0
+unfolding element
+element-any zero es e = refl
+element-any (suc m) es e = absurd (omega arith)
+
+-- .. and any other the words below it.
+pub element-some : (m : ℕ) (es : List ℕ) → m ≢ 0 → element m es ≡ unless (all (λ e. ltb e m) es) 8
+unfolding element
+element-some zero es ne = absurd (ne refl)
+element-some (suc m) es ne = refl
 
 -- ---- a plan that is read
 

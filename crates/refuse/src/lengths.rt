@@ -3,7 +3,7 @@ use crate::ranges::MOST_COLUMNS;
 use crate::ranges::MOST_STEPS;
 use crate::ranges::within;
 ghost use mathlib.Core.Path.{_≡_};
-ghost use Rattle.ladder.specs.Numbers.{scalarsLength, valuesLength, bitsLength, traceLength};
+ghost use Rattle.ladder.specs.Numbers.{scalarsLength, valuesLength, bitsLength, traceLength, registersLength};
 ghost use Rattle.refuse.specs.Inner.{inRange, sized};
 
 fn in_range(d: u64, l: u64) -> bool
@@ -49,4 +49,13 @@ pub fn trace_length(d: u64, l: u64) -> u64
         return 0;
     }
     l * (d + 1) * (d + 2)
+}
+
+pub fn registers_length(d: u64, l: u64) -> u64
+    ensures { λ r. ⌜ r ≡ sized d l (registersLength d) ⌝ }
+{
+    if !in_range(d, l) {
+        return 0;
+    }
+    d + 1
 }

@@ -1,4 +1,5 @@
-// A function for each number of the table that a plan can be refused by, and the first refusal that applies. Number 4 stands with the scalars.
+// A function for each number of the table, and the first refusal that applies. Number 4 stands with the scalars.
+use crate::elements::all_below;
 use crate::lengths::bits_length;
 use crate::orders::arrangement;
 use crate::ranges::MOST_COLUMNS;
@@ -6,7 +7,7 @@ use crate::ranges::MOST_STEPS;
 use crate::ranges::within;
 ghost use mathlib.Core.Path.{_≡_};
 ghost use lib.Dec.{eqb};
-ghost use Rattle.ladder.specs.Refusals.{_then_, unless, within, dim, len, order, answer, planRefusal};
+ghost use Rattle.ladder.specs.Refusals.{_then_, unless, within, dim, len, order, answer, tooLarge, element, planRefusal};
 ghost use Rattle.ladder.specs.Plan.{planLent};
 ghost use Rattle.refuse.specs.Inner.{planRead, lentRefusal};
 
@@ -23,6 +24,13 @@ pub const SCALAR: u64 = 4;
 pub const ORDER: u64 = 5;
 
 pub const ROW: u64 = 6;
+
+pub const MODULUS: u64 = 7;
+
+pub const ELEMENT: u64 = 8;
+
+// 2^63, the largest modulus but 2^64.
+const LARGEST: u64 = 9223372036854775808;
 
 // The first of two refusals that applies.
 pub fn first(a: u64, b: u64) -> u64
@@ -74,6 +82,23 @@ pub fn answer(d: u64, row: u64) -> u64
         return ROW;
     }
     OK
+}
+
+// A modulus above 2^63.
+pub fn too_large(m: u64) -> u64
+    ensures { λ r. ⌜ r ≡ tooLarge m ⌝ }
+{
+    if m <= LARGEST { OK } else { MODULUS }
+}
+
+// An element not below a modulus other than 0.
+pub fn element(m: u64, elements: &[u64]) -> u64
+    ensures { λ r. ⌜ r ≡ element m (now (elements .entry)) ⌝ }
+{
+    if m == 0 {
+        return OK;
+    }
+    if all_below(m, elements) { OK } else { ELEMENT }
 }
 
 // The refusal of a plan that is read; `shapes` is what stands at number 3.

@@ -8,6 +8,7 @@ pub mod Stepping
 pub mod SignedByte
 pub mod Reading
 pub mod Entries
+pub mod Additions
 pub mod Blocks
 pub mod WalkBlocks
 pub mod Tracing

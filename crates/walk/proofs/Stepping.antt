@@ -9,14 +9,17 @@ use native.Mathlib.Omega.{arith}
 use lib.IntN.{ℤ, pos, negℤ}
 use lib.ListN.{length, getD, take, replicate, List·getD-append, List·getD-eq-default}
 use lib.Seq.{take-at, length-take-le, getD-take}
+use Rattle.walk.specs.Inner.ReadBits.{ReadBits}
+use Rattle.ladder.proofs.Bits.{length-bitsAt}
+use Rattle.ladder.specs.Numbers.{bitsAt}
 use Rattle.ladder.specs.Lists.{ones}
-use Rattle.ladder.specs.Matrix.{Arrangement, orderFrom, stepOrder, turn, stepSigns, IsUnit, Units}
+use Rattle.ladder.specs.Matrix.{Arrangement, orderFrom, stepOrder, turn, stepSigns, IsUnit, Units, orderAfter, signsAfter}
 use Rattle.ladder.specs.Walk.{Walk, bitsOf, walkOf, orderOf, walkSigns, stepWalk}
 use Rattle.ladder.proofs.Lists.{ones-le, getD-map}
 use Rattle.ladder.proofs.Step.{length-stepOrder}
 use Rattle.ladder.proofs.Order.{place-of, arrangement-step}
 use Rattle.ladder.proofs.Signs.{turned, turn-at, length-turn}
-use Rattle.ladder.proofs.Walk.{pred-suc, length-bitsOf}
+use Rattle.ladder.proofs.Walk.{pred-suc, length-bitsOf, step-of-walk, length-orderAfter, length-signsAfter}
 use Rattle.walk.specs.Inner.Ready.{Columns, Ready}
 
 -- ---- orders
@@ -127,3 +130,15 @@ module _ {w : Walk} (ready : Ready w) (n : ℕ) where
   pub columns-next : (next : Walk) → next ≡ stepWalk w n → Columns (w .d) (next .order)
   unfolding stepWalk walkOf
   columns-next next e = subst (λ v. Columns (w .d) (v .order)) (sym e) (ready-step .order)
+
+-- ---- along lent bits
+
+-- A walk that stands after s steps stands, stepped with the bits of step s, after one more.
+pub walk-on : (d : ℕ) (S bytes : List ℕ) (s n : ℕ) → length S ≡ d → ReadBits d s bytes n
+    → stepWalk (walkOf d (orderAfter S (bitsAt d bytes) s) (signsAfter d S (bitsAt d bytes) s)) n
+    ≡ walkOf d (orderAfter S (bitsAt d bytes) (suc s)) (signsAfter d S (bitsAt d bytes) (suc s))
+unfolding orderAfter signsAfter
+walk-on d S bytes s n long read =
+    let f = bitsAt d bytes in
+    step-of-walk d (orderAfter S f s) (signsAfter d S f s) n (length-orderAfter d S f long (length-bitsAt d bytes) s) (length-signsAfter d S f s)
+    ∙ ap (λ b. walkOf d (stepOrder (orderAfter S f s) b) (stepSigns (signsAfter d S f s) (orderAfter S f s) b)) (read .bits)

@@ -1,7 +1,7 @@
 // The entries of one step.
+use crate::addition::doubling;
+use crate::addition::next_addition;
 use crate::entry::write_entry;
-use crate::number::bit;
-use crate::number::ones_in;
 ghost use mathlib.Core.Path.{_≡_};
 ghost use mathlib.Core.List.{map};
 ghost use Prim.Native.Nat.{pred, _+_, _*_, _≤_};
@@ -18,19 +18,18 @@ pub fn write_block(d: usize, signs: [i8; 8], order: [u8; 8], r: u64, out: &mut [
     requires { ⌜ (d ≤ 8) × (Columns d order × (at + (d + 1) * (d + 2) ≤ length (now out))) ⌝ }
     ensures { λ _. ⌜ now (out .exit) ≡ sets (now (out .entry)) at (traceBytes (walkBlock d (take d signs) (map pred (take d order)) (bitsOf d r))) ⌝ }
 {
-    let mut vector: [i8; 8] = [0; 8];
-    let mut x = ones_in(d, r);
-    write_entry(d, x, x, vector, out, at);
+    let first = doubling(d, r);
+    let zeros = first.vector;
+    write_entry(d, first.x, first.x, zeros, out, at);
+    let mut a = first;
     let mut next = at + (d + 2);
     let mut k: usize = 0;
     while k < d {
-        if bit(d, r, k) == 1 {
-            x -= 1;
-        }
-        let j = order[k] as usize - 1;
-        vector[j] = signs[j];
+        let b = next_addition(a, d, signs, order, r, k);
+        let vector = b.vector;
         k += 1;
-        write_entry(d, x, x + k, vector, out, next);
+        write_entry(d, b.x, b.x + k, vector, out, next);
         next += d + 2;
+        a = b;
     }
 }

@@ -6,10 +6,10 @@ use Rattle.cases.proofs.numbers.all.Statement.{statement}
 use Rattle.cases.proofs.numbers.all.Tie as tie
 
 abbrev Inv-loop : tie.InvT-loop
-Inv-loop s out₀ at₀ k₀ out at k = k ≤ 8192
+Inv-loop s out₀ at₀ k₀ out at k = k ≤ 16384
 
 abbrev μ-loop : tie.MeasureT-loop
-μ-loop s out₀ at₀ k₀ out at k = 8192 - k
+μ-loop s out₀ at₀ k₀ out at k = 16384 - k
 
 loop-holds : tie.Need-loop-holds Inv-loop μ-loop
 loop-holds c = search needs

@@ -4,11 +4,12 @@ use Prim.Native.Nat.{_+_, _-_, _*_, _/_}
 use mathlib.Core.Path.{_≡_, sym, ap, subst, subst₂, _∙_}
 use borrow.Author.Needs.{needs}
 use lib.ListN.{replicate}
+use Rattle.ladder.proofs.Bits.{bits-room}
 use Rattle.ladder.specs.Numbers.{valueWords}
 use Rattle.decode.specs.Inner.{stored, storedThen}
 use native.Mathlib.Omega.{arith}
 use Rattle.walk.specs.WalkState.{walkState}
-use Rattle.decode.proofs.Lowering.{Lowering, bits-room, held-room, next-units, lowering-starts, lowering-next, lowering-ends}
+use Rattle.decode.proofs.Lowering.{Lowering, held-room, next-units, lowering-starts, lowering-next, lowering-ends}
 use Rattle.decode.proofs.lower.lower_values.Statement.{statement}
 use Rattle.decode.proofs.lower.lower_values.Tie as tie
 

@@ -60,7 +60,7 @@ deal-requires c κs =
 put-requires : tie.Need-put-requires Inv-loop μ-loop
 put-requires c κs =
     let s = c .before .before .before .before .before .before .before .before .before in
-    room (s .pre .0) (s .pre .1 .0) (c .before .before .before .before .loop .inv) (c .before .before .before .loop-test .taken)
+    room (s .pre .0) (s .pre .1 .0) (c .before .before .before .before .loop .inv) (omega (arith, c .before .before .before .loop-test .taken))
     (c .before .deal .result) (c .before .deal .ensures .1)
 
 rearrange-requires : tie.Need-rearrange-requires Inv-loop μ-loop
@@ -78,7 +78,7 @@ loop-again c =
     let dealt = put .before .before in
     let turn = dealt .before .before in
     let s = turn .before .before .before .before .before .before in
-    one-more-behind (s .pre .0) (s .pre .1 .0) (turn .before .loop .inv) (turn .loop-test .taken)
+    one-more-behind (s .pre .0) (s .pre .1 .0) (turn .before .loop .inv) (omega (arith, turn .loop-test .taken))
     (dealt .before .gather2 .result) (dealt .deal .result) (dealt .before .gather2 .ensures) (dealt .deal .ensures .0)
     (put .put .result) (put .put .last .1 .1 .1 .0) (c .rearrange .result) (put .put .ensures) (put .put .kept .1 .1 .1 .0)
     (λ i. omega (arith, c .before .slice-known3 .given i)) (c .rearrange .ensures)

@@ -26,7 +26,7 @@ room : (b : tie.After-step-bits Inv-loop μ-loop)
 unfolding walkState
 room b =
     let l = b .before .before in (
-      block-room (l .before .before .before .pre) (l .loop .inv) (b .before .loop-test .taken) _ (b .step-bits .ensures),
+      block-room (l .before .before .before .pre) (l .loop .inv) (omega (arith, b .before .loop-test .taken)) _ (b .step-bits .ensures),
       omega (arith, l .loop .inv .long, l .before .before .before .good),
     )
 
@@ -38,7 +38,7 @@ unfolding walkState
 step-bits-requires c κs =
     let l = c .before in
     let asks = l .before .before .before .pre in
-    (l .loop .inv .ready .high, (omega (arith, asks .last), bits-there asks (l .loop .inv) (c .loop-test .taken)))
+    (l .loop .inv .ready .high, (omega (arith, asks .last), bits-there asks (l .loop .inv) (omega (arith, c .loop-test .taken))))
 
 advance-requires : tie.Need-advance-requires Inv-loop μ-loop
 advance-requires c κs = c .before .before .loop .inv .ready
@@ -87,7 +87,7 @@ add-additions c =
     omega (
       arith,
       additions-room (l .before .before .before .pre) (l .loop .inv)
-          (c .before .before .before .before .before .before .before .before .before .loop-test .taken) _
+          (omega (arith, c .before .before .before .before .before .before .before .before .before .loop-test .taken)) _
           (c .before .before .before .before .before .before .before .before .step-bits .ensures),
     )
 
@@ -104,7 +104,7 @@ unfolding walkState
 loop-again c =
     let l = c .before .before .before .before .before .before .before .before .before .before in
     tracing-next (l .before .before .before .pre) (l .loop .inv)
-    (c .before .before .before .before .before .before .before .before .before .loop-test .taken) _
+    (omega (arith, c .before .before .before .before .before .before .before .before .before .loop-test .taken)) _
     (c .before .before .before .before .before .before .before .before .step-bits .ensures) _ _
     (c .before .before .before .before .before .before .before .advance .ensures)
     (c .before .before .before .write-block .ensures)

@@ -1,0 +1,64 @@
+-- `run::plain::plain_steps` meets its contract. The loop's invariant is `Running`: the registers are those after the steps so far.
+-- Assumes nothing.
+use Prim.Native.Nat.{_-_}
+use native.Mathlib.Omega.{arith}
+use borrow.Author.Needs.{needs}
+use Rattle.ladder.proofs.Bits.{bits-room}
+use Rattle.run.proofs.PlainStepping.{Running, running-start, running-next, running-end, can-step}
+use Rattle.run.proofs.plain.plain_steps.Statement.{statement}
+use Rattle.run.proofs.plain.plain_steps.Tie as tie
+
+abbrev Inv-loop : tie.InvT-loop
+Inv-loop m d l bits regs₀ s₀ regs s = Running m d l bits regs₀ regs s
+
+abbrev μ-loop : tie.MeasureT-loop
+μ-loop m d l bits regs₀ s₀ regs s = l - s
+
+loop-holds : tie.Need-loop-holds Inv-loop μ-loop
+loop-holds c = running-start (c .before .pre)
+
+step-bits-requires : tie.Need-step-bits-requires Inv-loop μ-loop
+step-bits-requires c κs =
+    let asks = c .before .before .before .pre in
+    let a = c .before .before .before .args in
+    let h = c .loop-test .taken in
+    (asks .dHigh, (omega (arith, asks .lHigh), bits-room (a .d) (a .l) (c .before .loop .s) _ h (asks .bits)))
+
+step-pairs-requires : tie.Need-step-pairs-requires Inv-loop μ-loop
+step-pairs-requires c κs = c .before .before .before .before .pre .dHigh
+
+plain-step-requires : tie.Need-plain-step-requires Inv-loop μ-loop
+plain-step-requires c κs =
+    let asks = c .before .before .before .before .before .pre in
+    can-step (c .before .step-bits .result) (asks .dHigh) (asks .mHigh) (c .before .before .before .loop .inv .below) (c .step-pairs .ensures)
+
+add-s : tie.Need-add-s Inv-loop μ-loop
+add-s c = search needs
+
+loop-less : tie.Need-loop-less Inv-loop μ-loop
+loop-less c = search needs
+
+loop-again : tie.Need-loop-again Inv-loop μ-loop
+loop-again c =
+    running-next (c .before .before .before .before .loop .inv) (c .before .before .before .loop-test .taken)
+    (c .before .before .step-bits .result) (c .before .before .step-bits .ensures)
+    (c .before .step-pairs .result) (c .before .step-pairs .ensures)
+    (c .plain-step .result) (c .plain-step .ensures)
+
+returns : tie.Need-returns Inv-loop μ-loop
+returns c = running-end (c .before .loop .inv) (c .loop-test .left)
+
+pub plain-steps-spec : {M : Type 1} → statement M
+plain-steps-spec =
+    tie.close
+    (tie.spec
+    Inv-loop
+    μ-loop
+    loop-holds
+    step-bits-requires
+    step-pairs-requires
+    plain-step-requires
+    add-s
+    loop-less
+    loop-again
+    returns)
