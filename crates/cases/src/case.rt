@@ -11,7 +11,7 @@ pub struct Case {
     pub row: u64,
     // the modulus of a run
     pub m: u64,
-    // how much is lent of start, bits, words and a trace's output
+    // how much is lent of start, bits, words and output: a trace or registers
     pub starts: u64,
     pub bytes: u64,
     pub n: u64,

@@ -9,19 +9,18 @@ use native.Mathlib.Omega.{arith}
 use lib.ListN.{length, getD, drop, length-drop}
 use lib.Seq.{length-take-le}
 use Rattle.ladder.specs.Lists.{tabulate}
-use Rattle.ladder.specs.Numbers.{numberOf, numbersOf, wordsOf, wordsOfAll, scalarWords, startLength, bitsLength, valueWords, valuesLength, scalarsLength}
+use Rattle.ladder.specs.Numbers.{numberOf, numbersOf, wordsOf, wordsOfAll, scalarWords, valueWords, valuesLength, scalarsLength}
 use Rattle.ladder.specs.Plan.{Plan, answerRow, valuesIn}
-use Rattle.ladder.specs.Refusals.{scalarsIn, planShape, shape}
+use Rattle.ladder.specs.Refusals.{scalarsIn}
 use Rattle.ladder.proofs.Lists.{map-tabulate, tabulate-same}
 use Rattle.ladder.proofs.Numbers.{wordsOf-numberOf, wordsOfAll-numbersOf, value-words-full, own, own-below, number-at, own-within}
-use Rattle.ladder.proofs.Tests.{says-true, then-none, refusing-no, refusing-yes}
-use Rattle.ladder.proofs.Refusals.{shape-none, accepted-shapes}
+use Rattle.ladder.proofs.Tests.{says-true, refusing-no, refusing-yes}
 use Rattle.ladder.proofs.FileRefusals.{sameNumbers-says}
-use Rattle.ladder.proofs.Operations.{EncodeOk, DecodeOk, CheckOk, PlanOk, decode-none, check-none}
+use Rattle.ladder.proofs.Operations.{EncodeOk, DecodeOk, CheckOk, decode-none, check-none}
 use Rattle.ladder.proofs.Demand2.{decode-words}
 use Rattle.encode.specs.Promise.{EncodePromise}
 use Rattle.encode.specs.declared.call.Encoded.{Encoded}
-use Rattle.encode.proofs.Promised.{written, encode-plan, encode-not-refused, encode-decodes}
+use Rattle.encode.proofs.Promised.{written, encode-plan, encode-plan-ok, encode-decodes}
 use Rattle.decode.specs.Promise.{DecodePromise, CheckPromise}
 use Rattle.decode.specs.declared.checking.Checked.{Checked}
 use Rattle.decode.proofs.Equality.{lists-same}
@@ -75,22 +74,11 @@ module _ {d l : ℕ} {scalars start bits : List ℕ} {e : Encoded} {startAfter b
   abbrev plan : Plan
   plan = written d l e startAfter bitsAfter
 
-  plan-ok : PlanOk plan
-  unfolding planShape
-  plan-ok =
-      let shapes = accepted-shapes plan (planShape plan) (encode-not-refused promise ok) in
-      let each = then-none (shape startAfter (startLength d)) (shape bitsAfter (bitsLength d l)) shapes in
-      record {
-        plan = encode-plan promise ok;
-        start = shape-none startAfter (startLength d) .0 (each .0);
-        bits = shape-none bitsAfter (bitsLength d l) .0 (each .1);
-      }
-
   -- Decode of what encode wrote refuses nothing and gives the scalars, as numbers ..
   pub decode-encoded : (values valuesAfter : List ℕ) (r : ℕ) → length values ≡ valuesLength d l → DecodePromise plan values r valuesAfter
       → (r ≡ 0) × (numbersOf d (valueWords l) valuesAfter ≡ scalarsIn d l scalars)
   decode-encoded values valuesAfter r long x =
-      let got = decode-accepted x (record { plan = plan-ok; valuesLong = long }) in
+      let got = decode-accepted x (record { plan = encode-plan-ok promise ok; valuesLong = long }) in
       (got .0, ap (numbersOf d (valueWords l)) (got .1) ∙ decode-words plan (encode-plan promise ok) ∙ encode-decodes promise ok)
 
   -- .. and as words, whose columns are those of the scalars ..
@@ -98,7 +86,7 @@ module _ {d l : ℕ} {scalars start bits : List ℕ} {e : Encoded} {startAfter b
       → valuesAfter ≡ wordsOfAll (valueWords l) (scalarsIn d l scalars)
   unfolding valuesIn
   decode-encoded-words values valuesAfter r long x =
-      decode-accepted x (record { plan = plan-ok; valuesLong = long }) .1 ∙ ap (wordsOfAll (valueWords l)) (encode-decodes promise ok)
+      decode-accepted x (record { plan = encode-plan-ok promise ok; valuesLong = long }) .1 ∙ ap (wordsOfAll (valueWords l)) (encode-decodes promise ok)
 
   module _ (words : (i : ℕ) → getD scalars i 0 < 2 ^ 64) (values valuesAfter : List ℕ) (r : ℕ) (long : length values ≡ valuesLength d l)
       (decoded : DecodePromise plan values r valuesAfter) where
@@ -132,5 +120,5 @@ module _ {d l : ℕ} {scalars start bits : List ℕ} {e : Encoded} {startAfter b
   -- Check of it says yes.
   pub check-encoded : (r : Checked) → CheckPromise plan scalars r → (r .refusal ≡ 0) × (r .yes ≡ true)
   check-encoded r x =
-      let z = check-accepts x .1 (record { plan = plan-ok; scalarsLong = ok .scalarsLong; fit = ok .fit }) in
+      let z = check-accepts x .1 (record { plan = encode-plan-ok promise ok; scalarsLong = ok .scalarsLong; fit = ok .fit }) in
       (z, x .yes-is ∙ refusing-no _ false _ z ∙ sym (lists-same (answerRow plan) (scalarsIn d l scalars) (encode-decodes promise ok)))

@@ -12,11 +12,11 @@ use Rattle.ladder.specs.Numbers.{numberOf, numbersOf, byteOf, bytesFor, packBit
 use Rattle.ladder.specs.Plan.{Plan, answerRow}
 use Rattle.ladder.specs.Encoding.{scalarBit, xor, dealt, deal, picked, passed, rearrange, orderToGo, encodedStart, encodedBits, encodeWith, houseOrder, encode}
 use Rattle.ladder.specs.Refusals.{_then_, unless, refusing, within, dim, len, shape, scalar, planRefusal, planShape, scalarsIn, encodeRefusal}
-use Rattle.ladder.proofs.Tests.{refusing-no, refusing-yes}
+use Rattle.ladder.proofs.Tests.{then-none, refusing-no, refusing-yes}
 use Rattle.ladder.proofs.Numbers.{length-numbersOf, numbersOf-below}
 use Rattle.ladder.proofs.HouseOrder.{house-arrangement}
-use Rattle.ladder.proofs.Refusals.{Accepted, accepted}
-use Rattle.ladder.proofs.Operations.{EncodeOk, encode-none}
+use Rattle.ladder.proofs.Refusals.{Accepted, accepted, accepted-shapes, shape-none}
+use Rattle.ladder.proofs.Operations.{EncodeOk, PlanOk, encode-none}
 use Rattle.ladder.proofs.Demand2.{decode-encode}
 use Rattle.ladder.proofs.Lengths.{encoded-not-refused}
 use Rattle.encode.specs.declared.call.Encoded.{Encoded}
@@ -81,6 +81,19 @@ module _ {d l : ℕ} {scalars start bits : List ℕ} {r : Encoded} {startAfter b
 
     pub encode-plan : Accepted (written d l r startAfter bitsAfter)
     encode-plan = accepted _ _ encode-not-refused
+
+    -- .. its buffers have their lengths ..
+    pub encode-plan-ok : PlanOk (written d l r startAfter bitsAfter)
+    unfolding planShape
+    encode-plan-ok =
+        let p = written d l r startAfter bitsAfter in
+        let each =
+        then-none (shape startAfter (startLength d)) (shape bitsAfter (bitsLength d l)) (accepted-shapes p (planShape p) encode-not-refused) in
+        record {
+          plan = encode-plan;
+          start = shape-none startAfter (startLength d) .0 (each .0);
+          bits = shape-none bitsAfter (bitsLength d l) .0 (each .1);
+        }
 
     -- .. and its answer row is the scalars.
     pub encode-decodes : answerRow (written d l r startAfter bitsAfter) ≡ scalarsIn d l scalars

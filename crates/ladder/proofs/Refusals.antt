@@ -117,14 +117,14 @@ element-none zero es = (λ e. inl refl, λ e. refl)
 element-none (suc m) es =
     unless-says 7 (reworded (below-says (suc m) es) (inr, ⊎-elim (λ e. absurd (omega arith)) (λ f. f)))
 
--- Accepted elements, which are words, are at most the modulus.
-pub elements-fit : (m : ℕ) (es : List ℕ) → element m es ≡ 0 → ((j : ℕ) → getD es j 0 < 2 ^ 64) → (j : ℕ) → getD es j 0 ≤ modulus m
+-- Accepted elements, which are words, are below the modulus.
+pub elements-below : (m : ℕ) (es : List ℕ) → element m es ≡ 0 → ((j : ℕ) → getD es j 0 < 2 ^ 64) → (j : ℕ) → getD es j 0 < modulus m
 unfolding modulus
-elements-fit zero es e words j = omega (arith, words j)
-elements-fit (suc m) es e words j = ⊎-elim (λ z. absurd (omega arith)) (λ f. go f (decLt j (length es))) (element-none (suc m) es .0 e)
+elements-below zero es e words j = words j
+elements-below (suc m) es e words j = ⊎-elim (λ z. absurd (omega arith)) (λ f. go f (decLt j (length es))) (element-none (suc m) es .0 e)
   where
-    go : ((i : ℕ) → i < length es → getD es i 0 < suc m) → Dec (j < length es) → getD es j 0 ≤ suc m
-    go f (yes h) = omega (arith, f j h)
+    go : ((i : ℕ) → i < length es → getD es i 0 < suc m) → Dec (j < length es) → getD es j 0 < suc m
+    go f (yes h) = f j h
     go f (no h) = omega (arith, List·getD-eq-default es 0 {n = j} (omega arith))
 
 -- ---- a plan that is read
@@ -183,13 +183,13 @@ accept p ok =
     none-then _ _ ds (none-then _ _ ls (none-then 0 _ refl (none-then _ _ columns row)))
 
 -- A run that is not refused has an accepted plan, and elements that fit.
-pub run-accepted : (p : Plan) (m : ℕ) (es regs : List ℕ) → runRefusal p m es regs ≡ 0
+pub run-plan : (p : Plan) (m : ℕ) (es regs : List ℕ) → runRefusal p m es regs ≡ 0
     → Accepted p × (((j : ℕ) → getD es j 0 < 2 ^ 64) → (j : ℕ) → getD es j 0 ≤ modulus m)
 unfolding runRefusal
-run-accepted p m es regs e =
+run-plan p m es regs e =
     let a = then-none (planRefusal p _) _ e in
     let b = then-none (tooLarge m) _ (a .1) in
-    (accepted p _ (a .0), elements-fit m es (b .1))
+    (accepted p _ (a .0), λ words j. omega (arith, elements-below m es (b .1) words j))
 
 -- ---- each refusal is 0 or its own number
 

@@ -192,6 +192,14 @@ eachOnce-says (suc n) S =
 
 -- ---- orders
 
+-- A place of such an order holds a column from 1 to d.
+pub order-at : {d : ℕ} (S : List ℕ) → OrderOk d S → (k : ℕ) → k < d
+    → (1 ≤ getD S k 0) × (getD S k 0 - 1 ≡ getD (map pred S) k 0) × (getD (map pred S) k 0 < d)
+order-at S o k h =
+    let one : getD S k 0 ≡ suc (getD (map pred S) k 0) =
+    ap (λ l. getD l k 0) (o .counted) ∙ getD-map suc (map pred S) k 0 0 (omega (arith, o .columns .long)) in
+    (omega arith, omega arith, o .columns .inside k h)
+
 -- Columns counted from 1 occur as often as those counted from 0.
 pub count-suc : (j : ℕ) (U : List ℕ) → count (suc j) (map suc U) ≡ count j U
 unfolding count same

@@ -10,9 +10,9 @@ use Rattle.ladder.specs.Refusals.{_then_, within, planRefusal, planShape}
 abbrev pub planRead : ℕ → ℕ → List ℕ → ℕ → Plan
 planRead d l start answer = record { d = d; l = l; start = start; bits = []; answer = answer }
 
--- The refusal of a loose plan, its own shapes and that of the call's third buffer at number 3.
+-- The refusal of a loose plan, its own shapes and those of the call's other buffers at number 3.
 unfoldable pub lentRefusal : Plan → ℕ → ℕ
-lentRefusal p third = planRefusal p (planShape p then third)
+lentRefusal p others = planRefusal p (planShape p then others)
 
 -- Neither d nor l is refused.
 unfoldable pub inRange : ℕ → ℕ → Bool

@@ -2,6 +2,7 @@
 use crate::elements::all_below;
 use crate::lengths::bits_length;
 use crate::orders::arrangement;
+use crate::ranges::LARGEST_MODULUS;
 use crate::ranges::MOST_COLUMNS;
 use crate::ranges::MOST_STEPS;
 use crate::ranges::within;
@@ -28,9 +29,6 @@ pub const ROW: u64 = 6;
 pub const MODULUS: u64 = 7;
 
 pub const ELEMENT: u64 = 8;
-
-// 2^63, the largest modulus but 2^64.
-const LARGEST: u64 = 9223372036854775808;
 
 // The first of two refusals that applies.
 pub fn first(a: u64, b: u64) -> u64
@@ -88,7 +86,7 @@ pub fn answer(d: u64, row: u64) -> u64
 pub fn too_large(m: u64) -> u64
     ensures { λ r. ⌜ r ≡ tooLarge m ⌝ }
 {
-    if m <= LARGEST { OK } else { MODULUS }
+    if m <= LARGEST_MODULUS { OK } else { MODULUS }
 }
 
 // An element not below a modulus other than 0.
@@ -114,10 +112,10 @@ pub fn plan(d: u64, l: u64, start: &[u8], row: u64, shapes: u64) -> u64
     first(placed, reached)
 }
 
-// The refusal of a loose plan, lent as a start order and bits; `third` is the shape of the call's third buffer.
-pub fn lent_plan(d: u64, l: u64, start: &[u8], bits: &[u8], row: u64, third: u64) -> u64
-    ensures { λ r. ⌜ r ≡ lentRefusal (planLent d l (now (start .entry)) (now (bits .entry)) row) third ⌝ }
+// The refusal of a loose plan, lent as a start order and bits; `others` is the shape of the call's other buffers.
+pub fn lent_plan(d: u64, l: u64, start: &[u8], bits: &[u8], row: u64, others: u64) -> u64
+    ensures { λ r. ⌜ r ≡ lentRefusal (planLent d l (now (start .entry)) (now (bits .entry)) row) others ⌝ }
 {
     let own = first(shape(start.len(), d), shape(bits.len(), bits_length(d, l)));
-    plan(d, l, start, row, first(own, third))
+    plan(d, l, start, row, first(own, others))
 }

@@ -1,25 +1,14 @@
 -- The start registers as a loop makes them: place by place of the start order, what is left from here is what was left at first.
 -- Assumes nothing.
-use Prim.Native.Nat.{ℕ, suc, pred, _+_, _-_, _%_, _≤_, _<_}
+use Prim.Native.Nat.{ℕ, suc, _+_, _-_, _%_, _≤_, _<_}
 use mathlib.Core.Path.{_≡_, refl, sym, ap, ap₂, _∙_}
-use mathlib.Core.List.{List, [], _∷_, _++_, map}
+use mathlib.Core.List.{List, [], _∷_, _++_}
 use native.Mathlib.Numerals.{add-one}
 use native.Mathlib.Omega.{arith}
-use lib.ListN.{length, getD, take, drop, set, replicate, length-set, length-map, drop-of-length-le}
+use lib.ListN.{length, getD, take, drop, set, replicate, length-set, drop-of-length-le}
 use lib.Seq.{take-suc, take-set-le, drop-cons, getD-set-same, append-snoc}
 use Rattle.ladder.specs.Registers.{modulus, startFrom, startRegisters}
-use Rattle.ladder.proofs.Lists.{getD-map}
-use Rattle.run.specs.Inner.{Startable}
 use Rattle.run.proofs.ByModulus.{modulus-positive, below-modulus}
-
--- The column at place k, counted from 0.
-pub column-is : {m : ℕ} {start elements : List ℕ} → Startable m start elements → (k : ℕ) → k < length start
-    → (1 ≤ getD start k 0) × (getD start k 0 - 1 ≡ getD (map pred start) k 0) × (getD (map pred start) k 0 < length start)
-column-is {start = start} p k h =
-    let j = getD (map pred start) k 0 in
-    let one : getD start k 0 ≡ suc j =
-    ap (λ l. getD l k 0) (p .counted) ∙ getD-map suc (map pred start) k 0 0 (omega (arith, length-map start pred)) in
-    (omega arith, omega arith, p .columns .inside k h)
 
 -- After k places: the registers before, and those that are still to come from the last, are the start registers.
 pub record Beginning (m : ℕ) (elements S regs : List ℕ) (k : ℕ) : Type 0 where

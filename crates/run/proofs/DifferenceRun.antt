@@ -24,7 +24,7 @@ use Rattle.run.specs.Inner.{Elements, DifferenceStep, DifferenceSteps, d
 use Rattle.run.proofs.Differences.{block-registers, registers-below}
 
 -- Before step s of l.
-pub record Running (m : ℕ) (w₀ : Walk) (l : ℕ) (bytes elements start : List ℕ) (w : Walk) (regs : List ℕ) (s : ℕ) : Type 0 where
+pub record DifferenceRunning (m : ℕ) (w₀ : Walk) (l : ℕ) (bytes elements start : List ℕ) (w : Walk) (regs : List ℕ) (s : ℕ) : Type 0 where
   pub within : s ≤ l
   pub ready : Ready w
   pub walk : w
@@ -47,7 +47,7 @@ module _ {m : ℕ} {w₀ : Walk} {l : ℕ} {bytes elements start : List ℕ} (as
   unfolding orderOf
   arranged = asks .ready .order .columns
 
-  pub running-start : Running m w₀ l bytes elements start w₀ start 0
+  pub running-start : DifferenceRunning m w₀ l bytes elements start w₀ start 0
   unfolding orderAfter signsAfter registersAfter
   running-start = record {
     within = omega arith;
@@ -57,7 +57,7 @@ module _ {m : ℕ} {w₀ : Walk} {l : ℕ} {bytes elements start : List ℕ} (as
     registers = refl;
   }
 
-  module _ {w : Walk} {regs : List ℕ} {s : ℕ} (t : Running m w₀ l bytes elements start w regs s) where
+  module _ {w : Walk} {regs : List ℕ} {s : ℕ} (t : DifferenceRunning m w₀ l bytes elements start w regs s) where
     -- The walk's dimension stays.
     width : w .d ≡ d
     unfolding walkOf
@@ -108,7 +108,7 @@ module _ {m : ℕ} {w₀ : Walk} {l : ℕ} {bytes elements start : List ℕ} (as
         -- One step more, with its registers.
         pub running-next : s < l → (new : List ℕ)
             → take (suc d) new ≡ map (differenceOf m elements (take (suc d) regs)) entries
-            → Running m w₀ l bytes elements start next new (s + 1)
+            → DifferenceRunning m w₀ l bytes elements start next new (s + 1)
         unfolding registersAfter
         running-next h new f = rw (add-one s) record {
           within = h;

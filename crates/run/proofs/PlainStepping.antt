@@ -3,12 +3,11 @@
 use Prim.Native.Nat.{ℕ, suc, _+_, _%_, _^_, _≤_, _<_}
 use mathlib.Core.Path.{_≡_, refl, sym, ap, ap₂, subst, _∙_}
 use mathlib.Core.List.{List, [], _∷_, _++_, map}
-use native.Mathlib.Nat.{mod-lt}
 use native.Mathlib.Numerals.{add-one}
 use native.Mathlib.Omega.{arith}
 use lib.ListN.{length, getD, take, set, replicate, length-set}
 use lib.Seq.{take-suc-set, getD-take}
-use Rattle.run.proofs.ByModulus.{modulus-positive}
+use Rattle.run.proofs.ByModulus.{modulus-positive, below-modulus}
 use Rattle.ladder.specs.Lists.{tabulate}
 use Rattle.ladder.specs.Matrix.{Matrix, matrixAfter}
 use Rattle.ladder.specs.Numbers.{bitsAt}
@@ -82,7 +81,7 @@ sums-below m d pairs regs new e i h =
     let each = e ∙ map-tabulate made (suc d) (pairAt (pairs .x) (pairs .y)) in
     subst (λ a. a < modulus m) (sym (ap (λ l. getD l i 0) each) ∙ getD-take (suc d) new i 0 h)
     (tabulate-below (modulus m) (suc d) (λ j. made (pairAt (pairs .x) (pairs .y) j)) (modulus-positive m)
-    (λ k l. mod-lt _ (modulus-positive m)) i)
+    (λ k l. below-modulus m _) i)
 
 -- The pairs of a step name rows that there are, so that a step can be made by them.
 pub can-step : {m d : ℕ} (n : ℕ) {pairs : Pairs} {regs : List ℕ} → d ≤ 8 → m ≤ 2 ^ 63 → Elements m (suc d) regs
@@ -106,21 +105,21 @@ can-step {m} {d} n {pairs} small high below e = record {
 -- ---- all steps
 
 -- After s steps, from any start order.
-pub record Running (m d l : ℕ) (bytes start regs : List ℕ) (s : ℕ) : Type 0 where
+pub record PlainRunning (m d l : ℕ) (bytes start regs : List ℕ) (s : ℕ) : Type 0 where
   pub within : s ≤ l
   pub below : Elements m (suc d) regs
   pub done : (S : List ℕ) → take (suc d) regs ≡ registersAfter (plainRule m) d S (bitsAt d bytes) (take (suc d) start) s
 
-pub running-start : {m d l : ℕ} {bytes start : List ℕ} → PlainSteps m d l bytes start → Running m d l bytes start start 0
+pub running-start : {m d l : ℕ} {bytes start : List ℕ} → PlainSteps m d l bytes start → PlainRunning m d l bytes start start 0
 unfolding registersAfter
 running-start asks = record { within = omega arith; below = asks .below; done = λ S. refl }
 
 -- One step more.
-pub running-next : {m d l : ℕ} {bytes start regs : List ℕ} {s : ℕ} → Running m d l bytes start regs s → s < l
+pub running-next : {m d l : ℕ} {bytes start regs : List ℕ} {s : ℕ} → PlainRunning m d l bytes start regs s → s < l
     → (n : ℕ) → ReadBits d s bytes n
     → (pairs : Pairs) → pairsIn d pairs ≡ operations (bitsOf d n)
     → (next : List ℕ) → take (suc d) next ≡ map (plainSum m (take (suc d) regs)) (pairsIn d pairs)
-    → Running m d l bytes start next (s + 1)
+    → PlainRunning m d l bytes start next (s + 1)
 unfolding registersAfter
 running-next {m} {d} {l} {bytes} {start} {regs} {s} t h n read pairs e next o = rw add-one record {
   within = h;
@@ -132,7 +131,7 @@ running-next {m} {d} {l} {bytes} {start} {regs} {s} t h n read pairs e next o = 
 }
 
 -- After the last.
-pub running-end : {m d l : ℕ} {bytes start regs : List ℕ} {s : ℕ} → Running m d l bytes start regs s → l ≤ s
+pub running-end : {m d l : ℕ} {bytes start regs : List ℕ} {s : ℕ} → PlainRunning m d l bytes start regs s → l ≤ s
     → (S : List ℕ) → take (suc d) regs ≡ registersAfter (plainRule m) d S (bitsAt d bytes) (take (suc d) start) l
 running-end {m} {d} {l} {bytes} {start} {regs} {s} t h S =
     let over : s ≡ l = omega (arith, t .within) in

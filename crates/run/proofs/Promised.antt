@@ -1,22 +1,22 @@
 -- What follows from the promises of the two runs alone, with those of encode, decode and trace, for a crate above to cite.
 -- Assumes nothing.
-use Prim.Native.Nat.{ℕ, _*_, _^_, _<_}
+use Prim.Native.Nat.{ℕ, _*_, _^_, _≤_, _<_}
 use mathlib.Core.Path.{_≡_, sym, ap, subst, _∙_}
-use mathlib.Core.Logic.{_≢_, _↔_}
+use mathlib.Core.Logic.{_≢_, _↔_, _⊎_}
 use mathlib.Core.List.{List, map}
-use lib.ListN.{getD}
-use Rattle.ladder.specs.Numbers.{numbersOf, valueWords}
+use lib.ListN.{length, getD}
+use Rattle.ladder.specs.Numbers.{numbersOf, valueWords, valuesLength, traceLength, elementsLength, registersLength}
 use Rattle.ladder.specs.Plan.{Plan, lastMatrix, answerRow}
 use Rattle.ladder.specs.Registers.{combination, differenceRegisters, answerRegister}
 use Rattle.ladder.specs.Refusals.{scalarsIn, runRefusal}
 use Rattle.ladder.proofs.Tests.{refusing-no, refusing-yes, refusing-accepted}
-use Rattle.ladder.proofs.Operations.{EncodeOk, DecodeOk, TraceOk, RunOk, run-none}
+use Rattle.ladder.proofs.Operations.{EncodeOk, RunOk, run-none}
 use Rattle.ladder.proofs.Trace.{trace-doublings, trace-additions}
 use Rattle.ladder.proofs.Demand2.{registers-in, answer-register, decode-words}
 use Rattle.ladder.proofs.Demand3.{runs-agree-accepted}
 use Rattle.encode.specs.Promise.{EncodePromise}
 use Rattle.encode.specs.declared.call.Encoded.{Encoded}
-use Rattle.encode.proofs.Promised.{written, encode-decodes}
+use Rattle.encode.proofs.Promised.{written, encode-plan-ok, encode-decodes}
 use Rattle.decode.specs.Promise.{DecodePromise}
 use Rattle.decode.proofs.Promised.{decode-accepted}
 use Rattle.walk.specs.Promise.{TracePromise}
@@ -37,23 +37,20 @@ module _ (p : Plan) (m : ℕ) (elements registers : List ℕ) (words : (j : ℕ)
       let ok = run-none p m elements registers .0 e .plan .plan in
       runs-agree-accepted p m elements registers e words (p .l) ∙ registers-in p ok m elements (p .l)
 
-  same-answer : runRefusal p m elements registers ≡ 0
-      → answerRegister p (differenceRegisters p m elements (p .l)) ≡ combination m elements (answerRow p)
-  same-answer e =
-      let ok = run-none p m elements registers .0 e .plan .plan in
-      ap (answerRegister p) (runs-agree-accepted p m elements registers e words (p .l)) ∙ answer-register p ok m elements
-
 module _ {p : Plan} {m : ℕ} {elements registers : List ℕ} (words : (j : ℕ) → getD elements j 0 < 2 ^ 64) where
   -- What the difference run promises the plain run promises ..
   pub difference-is-plain : {r : Ran} {registersAfter : List ℕ} → DifferencePromise p m elements registers r registersAfter
       → PlainPromise p m elements registers r registersAfter
-  difference-is-plain {r} x = record {
-    refusal-is = x .refusal-is;
-    answer-is = x .answer-is ∙ refusing-accepted (r .refusal) 0 _ _ (λ z. same-answer p m elements registers words (sym (x .refusal-is) ∙ z));
-    doublings-are = x .doublings-are;
-    additions-are = x .additions-are;
-    registers-are = x .registers-are ∙ refusing-accepted (r .refusal) registers _ _ (λ z. same-registers p m elements registers words (sym (x .refusal-is) ∙ z));
-  }
+  difference-is-plain {r} x =
+      let same : r .refusal ≡ 0 → differenceRegisters p m elements (p .l) ≡ map (combination m elements) (lastMatrix p) =
+      λ z. same-registers p m elements registers words (sym (x .refusal-is) ∙ z) in
+      record {
+        refusal-is = x .refusal-is;
+        answer-is = x .answer-is ∙ refusing-accepted (r .refusal) 0 _ _ (λ z. ap (answerRegister p) (same z));
+        doublings-are = x .doublings-are;
+        additions-are = x .additions-are;
+        registers-are = x .registers-are ∙ refusing-accepted (r .refusal) registers _ _ same;
+      }
 
   -- .. so on every input, refused or not, the two give the same answers and leave the same registers.
   pub runs-same : {r s : Ran} {registersAfter registersOther : List ℕ} → PlainPromise p m elements registers r registersAfter
@@ -86,16 +83,16 @@ module _ {p : Plan} {m : ℕ} {elements registers : List ℕ} {r : Ran} {registe
     pub run-registers : registersAfter ≡ map (combination m elements) (lastMatrix p)
     run-registers = promise .registers-are ∙ refusing-no _ _ _ run-accepted
 
-    -- .. the answer is the one at the answer row ..
-    pub run-answer : r .answer ≡ combination m elements (answerRow p)
-    run-answer = promise .answer-is ∙ refusing-no _ _ _ run-accepted
-
+    -- .. the answer is the register of the answer row, which is the combination by that row ..
     pub run-answer-register : r .answer ≡ answerRegister p registersAfter
+    run-answer-register = promise .answer-is ∙ refusing-no _ _ _ run-accepted ∙ ap (answerRegister p) (sym run-registers)
+
+    pub run-answer : r .answer ≡ combination m elements (answerRow p)
     unfolding lastMatrix
-    run-answer-register =
-        run-answer
-        ∙ sym (ap (answerRegister p) (run-registers ∙ sym (registers-in p (ok .plan .plan) m elements (p .l)))
-        ∙ answer-register p (ok .plan .plan) m elements)
+    run-answer =
+        run-answer-register
+        ∙ ap (answerRegister p) (run-registers ∙ sym (registers-in p (ok .plan .plan) m elements (p .l)))
+        ∙ answer-register p (ok .plan .plan) m elements
 
     -- .. there are l doublings and l * d additions, which are those that trace answers ..
     pub run-counts : (r .doublings ≡ p .l) × (r .additions ≡ p .l * p .d)
@@ -104,26 +101,38 @@ module _ {p : Plan} {m : ℕ} {elements registers : List ℕ} {r : Ran} {registe
       promise .additions-are ∙ refusing-no _ _ _ run-accepted ∙ trace-additions p,
     )
 
-    pub run-traced : {trace : List ℕ} {t : TraceAnswer} {traceAfter : List ℕ} → TracePromise p trace t traceAfter → TraceOk p trace
-        → (r .doublings ≡ t .doublings) × (r .additions ≡ t .additions)
-    run-traced traced tok =
-        let n = trace-counts traced tok in
+    pub run-traced : {trace : List ℕ} {t : TraceAnswer} {traceAfter : List ℕ} → TracePromise p trace t traceAfter
+        → length trace ≡ traceLength (p .d) (p .l) → (r .doublings ≡ t .doublings) × (r .additions ≡ t .additions)
+    run-traced traced long =
+        let n = trace-counts traced (record { plan = ok .plan; traceLong = long }) in
         (run-counts .0 ∙ sym (n .0), run-counts .1 ∙ sym (n .1))
 
     -- .. and the answer is the sum of the values that decode writes times the elements, by the modulus.
-    pub run-decoded : {values : List ℕ} {n : ℕ} {valuesAfter : List ℕ} → DecodePromise p values n valuesAfter → DecodeOk p values
-        → r .answer ≡ combination m elements (numbersOf (p .d) (valueWords (p .l)) valuesAfter)
-    run-decoded decoded dok =
+    pub run-decoded : {values : List ℕ} {n : ℕ} {valuesAfter : List ℕ} → DecodePromise p values n valuesAfter
+        → length values ≡ valuesLength (p .d) (p .l) → r .answer ≡ combination m elements (numbersOf (p .d) (valueWords (p .l)) valuesAfter)
+    run-decoded decoded long =
         run-answer
         ∙ ap (combination m elements)
-        (sym (ap (numbersOf (p .d) (valueWords (p .l))) (decode-accepted decoded dok .1) ∙ decode-words p (ok .plan .plan)))
+        (sym (ap (numbersOf (p .d) (valueWords (p .l))) (decode-accepted decoded (record { plan = ok .plan; valuesLong = long }) .1)
+        ∙ decode-words p (ok .plan .plan)))
 
 -- ---- what was encoded
 
--- Over what encode wrote the answer is the combination of the elements by the scalars.
+-- Over what encode wrote a run refuses nothing where the modulus, the elements and the registers are right, and its answer is the
+-- combination of the elements by the scalars.
 pub run-encoded : {d l : ℕ} {scalars start bits : List ℕ} {e : Encoded} {startAfter bitsAfter : List ℕ}
     → EncodePromise d l scalars start bits e startAfter bitsAfter → EncodeOk d l scalars start bits
     → {m : ℕ} {elements registers : List ℕ} {r : Ran} {registersAfter : List ℕ}
     → PlainPromise (written d l e startAfter bitsAfter) m elements registers r registersAfter
-    → RunOk (written d l e startAfter bitsAfter) m elements registers → r .answer ≡ combination m elements (scalarsIn d l scalars)
-run-encoded encoded eok {m} {elements} promise ok = run-answer promise ok ∙ ap (combination m elements) (encode-decodes encoded eok)
+    → length elements ≡ elementsLength d → length registers ≡ registersLength d → m ≤ 2 ^ 63
+    → (m ≡ 0) ⊎ ((j : ℕ) → j < length elements → getD elements j 0 < m)
+    → (r .refusal ≡ 0) × (r .answer ≡ combination m elements (scalarsIn d l scalars))
+run-encoded {d} {l} {scalars} {e = e} {startAfter} {bitsAfter} encoded eok {m} {elements} {registers} promise many room high below =
+    let ok : RunOk (written d l e startAfter bitsAfter) m elements registers = record {
+      plan = encode-plan-ok encoded eok;
+      elementsLong = many;
+      registersLong = room;
+      modulus = high;
+      below = below;
+    } in
+    (run-accepted promise ok, run-answer promise ok ∙ ap (combination m elements) (encode-decodes encoded eok))

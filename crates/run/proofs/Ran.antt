@@ -2,7 +2,7 @@
 -- Assumes nothing.
 use Prim.Native.Nat.{ℕ, zero, suc, pred, _+_, _-_, _*_, _%_, _^_, _<_}
 use mathlib.Core.Path.{_≡_, sym, ap, ap₂, subst, _∙_}
-use mathlib.Core.Logic.{_≢_, ⊎-elim}
+use mathlib.Core.Logic.{_≢_}
 use mathlib.Core.List.{List, [], _∷_, map}
 use native.Mathlib.Numerals.{add-one, sub-one}
 use native.Mathlib.Omega.{arith}
@@ -10,22 +10,23 @@ use lib.ListN.{length, getD, take}
 use lib.Seq.{getD-take}
 use Rattle.ladder.specs.Matrix.{Arrangement, startSigns}
 use Rattle.ladder.specs.Numbers.{startLength, elementsLength, registersLength, bitsAt}
-use Rattle.ladder.specs.Plan.{Plan, startOrder, lastMatrix, answerRow}
+use Rattle.ladder.specs.Plan.{Plan, startOrder, lastMatrix}
 use Rattle.ladder.specs.Registers.{modulus, combination, startFrom, startRegisters, plainRule, differenceRule, registersAfter, plainRegisters, differenceRegisters, answerRegister}
 use Rattle.ladder.specs.Walk.{Walk, walkOf, orderOf}
 use Rattle.ladder.specs.Refusals.{refusing, runRefusal}
 use Rattle.ladder.proofs.Tests.{refusing-yes}
+use Rattle.ladder.proofs.Refusals.{element-none, elements-below}
 use Rattle.ladder.proofs.Operations.{RunOk, run-none}
 use Rattle.ladder.proofs.Trace.{trace-doublings, trace-additions}
 use Rattle.ladder.proofs.Walk.{order-of-walk}
-use Rattle.ladder.proofs.Demand2.{registers-in, answer-register}
+use Rattle.ladder.proofs.Demand2.{registers-in}
 use Rattle.walk.specs.Inner.Ready.{started}
 use Rattle.walk.proofs.PlanWalk.{ready-start}
 use Rattle.walk.proofs.Starting.{started-is}
 use Rattle.run.specs.declared.answer.Ran.{Ran}
-use Rattle.run.specs.Promise.{PlainPromise, DifferencePromise}
+use Rattle.run.specs.Promise.{RunPromise}
 use Rattle.run.specs.Inner.{Elements, Startable, PlainSteps, DifferenceSteps}
-use Rattle.run.proofs.ByModulus.{modulus-zero, modulus-some, modulus-positive, below-modulus}
+use Rattle.run.proofs.ByModulus.{modulus-positive, below-modulus}
 
 -- Start registers are elements.
 start-below : (m : ℕ) (es : List ℕ) (a : ℕ) (S : List ℕ) → a < modulus m → (i : ℕ) → getD (startFrom m es a S) i 0 < modulus m
@@ -38,16 +39,8 @@ start-below m es a (j ∷ S) h (suc i) = start-below m es ((a + getD es j 0) % m
 module _ {p : Plan} {m : ℕ} {elements registers : List ℕ} (ok : RunOk p m elements registers)
     (words : (i : ℕ) → getD elements i 0 < 2 ^ 64) where
   -- Elements that are not refused are below the modulus.
-  pub elements-below : Elements m (length elements) elements
-  elements-below i h =
-      ⊎-elim (λ z. subst (λ n. getD elements i 0 < n) (sym (modulus-zero m z)) (words i)) (λ f. least i h (f i h)) (ok .below)
-    where
-      least : (i : ℕ) → i < length elements → getD elements i 0 < m → getD elements i 0 < modulus m
-      least i h l = subst (λ n. getD elements i 0 < n) (sym (modulus-some m (λ z. omega arith))) l
-
   pub elements-of : Elements m (p .d) elements
-  unfolding elementsLength
-  elements-of i h = elements-below i (omega (arith, ok .elementsLong))
+  elements-of i h = elements-below m elements (element-none m elements .1 (ok .below)) words i
 
   -- The walk's start holds the start order.
   begins : started (p .d) (p .start) ≡ walkOf (p .d) (startOrder p) (startSigns (p .d))
@@ -65,10 +58,9 @@ module _ {p : Plan} {m : ℕ} {elements registers : List ℕ} (ok : RunOk p m el
       record {
         few = omega (arith, d, a .dHigh);
         mHigh = ok .modulus;
-        columns = subst (λ n. Arrangement n (map pred (p .start))) (sym d) (a .start);
-        counted = a .columns;
+        order = record { columns = subst (λ n. Arrangement n (map pred (p .start))) (sym d) (a .start); counted = a .columns };
         long = ok .elementsLong ∙ sym d;
-        below = elements-below;
+        below = λ i h. elements-below m elements (element-none m elements .1 (ok .below)) words i;
       }
 
   module _ (first : List ℕ) (begun : take (suc (length (p .start))) first ≡ startRegisters m elements (map pred (p .start))) where
@@ -148,11 +140,6 @@ module _ {p : Plan} {m : ℕ} {elements registers : List ℕ} (ok : RunOk p m el
       ∙ sym (getD-take (suc (p .d)) regs (pred (p .answer)) 0 inside)
       ∙ ap (λ l. getD l (pred (p .answer)) 0) e
 
-  -- The plain run's is the combination by the answer row.
-  pub plain-answer : answerRegister p (map (combination m elements) (lastMatrix p)) ≡ combination m elements (answerRow p)
-  unfolding lastMatrix
-  plain-answer = ap (answerRegister p) (sym (registers-in p (ok .plan .plan) m elements (p .l))) ∙ answer-register p (ok .plan .plan) m elements
-
 -- ---- the promises are kept
 
 module _ (p : Plan) (m : ℕ) (elements registers : List ℕ) (n : ℕ) (judged : n ≡ runRefusal p m elements registers) where
@@ -161,45 +148,26 @@ module _ (p : Plan) (m : ℕ) (elements registers : List ℕ) (n : ℕ) (judged 
   asked none = run-none p m elements registers .0 (sym judged ∙ none)
 
   -- On refusal: zeros, and the registers as they came.
-  module _ (some : n ≢ 0) (r : Ran) (answered : r ≡ record { refusal = n; answer = 0; doublings = 0; additions = 0 }) where
-    pub plain-refused : PlainPromise p m elements registers r registers
-    plain-refused = rw answered record {
-      refusal-is = judged;
-      answer-is = sym (refusing-yes _ _ _ some);
-      doublings-are = sym (refusing-yes _ _ _ some);
-      additions-are = sym (refusing-yes _ _ _ some);
-      registers-are = sym (refusing-yes _ _ _ some);
-    }
-
-    pub difference-refused : DifferencePromise p m elements registers r registers
-    difference-refused = rw answered record {
-      refusal-is = judged;
-      answer-is = sym (refusing-yes _ _ _ some);
-      doublings-are = sym (refusing-yes _ _ _ some);
-      additions-are = sym (refusing-yes _ _ _ some);
-      registers-are = sym (refusing-yes _ _ _ some);
-    }
+  pub run-kept-refused : n ≢ 0 → (r : Ran) → r ≡ record { refusal = n; answer = 0; doublings = 0; additions = 0 } → (wanted : List ℕ)
+      → RunPromise p m elements registers wanted r registers
+  run-kept-refused some r answered wanted = rw answered record {
+    refusal-is = judged;
+    answer-is = sym (refusing-yes _ _ _ some);
+    doublings-are = sym (refusing-yes _ _ _ some);
+    additions-are = sym (refusing-yes _ _ _ some);
+    registers-are = sym (refusing-yes _ _ _ some);
+  }
 
   -- Else what was finished from the end registers.
-  module _ (none : n ≡ 0) (words : (i : ℕ) → getD elements i 0 < 2 ^ 64) (regs : List ℕ) (r : Ran)
-      (answered : r ≡ record { refusal = 0; answer = getD regs (p .answer - 1) 0; doublings = p .l; additions = p .l * p .d }) (after : List ℕ)
-      (left : after ≡ take (length registers) regs) where
-    pub plain-kept : take (suc (p .d)) regs ≡ map (combination m elements) (lastMatrix p) → PlainPromise p m elements registers r after
-    unfolding refusing
-    plain-kept held = rw answered record {
-      refusal-is = sym none ∙ judged;
-      answer-is = answer-read (asked none) words regs _ held ∙ plain-answer (asked none) words;
-      doublings-are = sym (trace-doublings p);
-      additions-are = sym (trace-additions p);
-      registers-are = left ∙ stored-all (asked none) words regs ∙ held;
-    }
-
-    pub difference-kept : take (suc (p .d)) regs ≡ differenceRegisters p m elements (p .l) → DifferencePromise p m elements registers r after
-    unfolding refusing
-    difference-kept held = rw answered record {
-      refusal-is = sym none ∙ judged;
-      answer-is = answer-read (asked none) words regs _ held;
-      doublings-are = sym (trace-doublings p);
-      additions-are = sym (trace-additions p);
-      registers-are = left ∙ stored-all (asked none) words regs ∙ held;
-    }
+  pub run-kept : n ≡ 0 → ((i : ℕ) → getD elements i 0 < 2 ^ 64) → (regs : List ℕ) (r : Ran)
+      → r ≡ record { refusal = 0; answer = getD regs (p .answer - 1) 0; doublings = p .l; additions = p .l * p .d }
+      → (after : List ℕ) → after ≡ take (length registers) regs → (wanted : List ℕ) → take (suc (p .d)) regs ≡ wanted
+      → RunPromise p m elements registers wanted r after
+  unfolding refusing
+  run-kept none words regs r answered after left wanted held = rw answered record {
+    refusal-is = sym none ∙ judged;
+    answer-is = answer-read (asked none) words regs wanted held;
+    doublings-are = sym (trace-doublings p);
+    additions-are = sym (trace-additions p);
+    registers-are = left ∙ stored-all (asked none) words regs ∙ held;
+  }

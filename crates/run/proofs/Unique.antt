@@ -6,7 +6,7 @@ use mathlib.Core.List.{List}
 use Rattle.ladder.specs.Plan.{Plan}
 use Rattle.ladder.proofs.Tests.{refusing-same}
 use Rattle.run.specs.declared.answer.Ran.{Ran}
-use Rattle.run.specs.Promise.{PlainPromise, DifferencePromise}
+use Rattle.run.specs.Promise.{RunPromise, PlainPromise, DifferencePromise}
 
 -- An answer is its four numbers.
 same-ran : (r s : Ran) → r .refusal ≡ s .refusal → r .answer ≡ s .answer → r .doublings ≡ s .doublings → r .additions ≡ s .additions → r ≡ s
@@ -14,24 +14,25 @@ same-ran r s n a d e =
     ap₂ (λ m i. record { refusal = m; answer = i; doublings = r .doublings; additions = r .additions }) n a
     ∙ ap₂ (λ i j. record { refusal = s .refusal; answer = s .answer; doublings = i; additions = j }) d e
 
--- Two answers with two outputs that the plain run could give and leave on the same input are equal.
-pub plain-unique : {p : Plan} {m : ℕ} {elements registers : List ℕ} {r s : Ran} {registersAfter registersOther : List ℕ}
-    → PlainPromise p m elements registers r registersAfter → PlainPromise p m elements registers s registersOther
+-- Two answers with two outputs that a run could give and leave on the same input are equal ..
+pub run-unique : {p : Plan} {m : ℕ} {elements registers wanted : List ℕ} {r s : Ran} {registersAfter registersOther : List ℕ}
+    → RunPromise p m elements registers wanted r registersAfter → RunPromise p m elements registers wanted s registersOther
     → (r ≡ s) × (registersAfter ≡ registersOther)
-plain-unique {r = r} {s} x y =
+run-unique {r = r} {s} x y =
     let n = x .refusal-is ∙ sym (y .refusal-is) in (
       same-ran r s n (refusing-same _ _ n (x .answer-is) (y .answer-is)) (refusing-same _ _ n (x .doublings-are) (y .doublings-are))
           (refusing-same _ _ n (x .additions-are) (y .additions-are)),
       refusing-same _ _ n (x .registers-are) (y .registers-are),
     )
 
--- So it is with the difference run.
+-- .. of the plain run ..
+pub plain-unique : {p : Plan} {m : ℕ} {elements registers : List ℕ} {r s : Ran} {registersAfter registersOther : List ℕ}
+    → PlainPromise p m elements registers r registersAfter → PlainPromise p m elements registers s registersOther
+    → (r ≡ s) × (registersAfter ≡ registersOther)
+plain-unique x y = run-unique x y
+
+-- .. and of the difference run.
 pub difference-unique : {p : Plan} {m : ℕ} {elements registers : List ℕ} {r s : Ran} {registersAfter registersOther : List ℕ}
     → DifferencePromise p m elements registers r registersAfter → DifferencePromise p m elements registers s registersOther
     → (r ≡ s) × (registersAfter ≡ registersOther)
-difference-unique {r = r} {s} x y =
-    let n = x .refusal-is ∙ sym (y .refusal-is) in (
-      same-ran r s n (refusing-same _ _ n (x .answer-is) (y .answer-is)) (refusing-same _ _ n (x .doublings-are) (y .doublings-are))
-          (refusing-same _ _ n (x .additions-are) (y .additions-are)),
-      refusing-same _ _ n (x .registers-are) (y .registers-are),
-    )
+difference-unique x y = run-unique x y

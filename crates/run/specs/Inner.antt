@@ -1,12 +1,12 @@
 -- What the inner contracts of the runs need.
 -- Assumes nothing.
-use Prim.Native.Nat.{ℕ, suc, pred, _+_, _%_, _^_, _≤_, _<_}
+use Prim.Native.Nat.{ℕ, suc, _+_, _%_, _^_, _≤_, _<_}
 use mathlib.Core.Path.{_≡_}
-use mathlib.Core.List.{List, map}
+use mathlib.Core.List.{List}
 use lib.IntN.{ℤ, pos}
 use lib.ListN.{length, getD}
 use Rattle.ladder.specs.Lists.{tabulate}
-use Rattle.ladder.specs.Matrix.{Arrangement, Pair, IsSmall, Units, startSigns}
+use Rattle.ladder.specs.Matrix.{OrderOk, Pair, IsSmall, Units, startSigns}
 use Rattle.ladder.specs.Numbers.{bitsLength}
 use Rattle.ladder.specs.Registers.{modulus, differenceAdd}
 use Rattle.ladder.specs.Trace.{Entry}
@@ -48,8 +48,7 @@ pub record PlainSteps (m d l : ℕ) (bytes start : List ℕ) : Type 0 where
 pub record Startable (m : ℕ) (start elements : List ℕ) : Type 0 where
   pub few : length start ≤ 8
   pub mHigh : m ≤ 2 ^ 63
-  pub columns : Arrangement (length start) (map pred start)
-  pub counted : start ≡ map suc (map pred start)
+  pub order : OrderOk (length start) start
   pub long : length elements ≡ length start
   pub below : Elements m (length elements) elements
 

@@ -57,7 +57,7 @@ pub fn plain_run(
     finish(regs, d, l, row, registers)
 }
 
-// The difference run of a plan: leaves the registers that its own rule defines, with no use of row y in an addition.
+// The difference run of a plan: leaves the registers that its own rule defines, with no use of register y in an addition.
 pub fn difference_run(
     d: u64,
     l: u64,

@@ -31,7 +31,7 @@ pub fn difference_add(x: u64, vector: [i8; 8], elements: &[u64], m: u64) -> u64
     sum
 }
 
-// One step with the bits r: the signs are those before it, the order is the one after it. No row y is known here.
+// One step with the bits r: the signs are those before it, the order is the one after it. Of the old registers each addition reads that of row x alone.
 pub fn difference_step(
     m: u64,
     d: usize,

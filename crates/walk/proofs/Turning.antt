@@ -1,6 +1,6 @@
 -- The new signs as a loop fills them, column by column in the new order.
 -- Assumes nothing.
-use Prim.Native.Nat.{ℕ, suc, pred, _+_, _-_, _≤_, _<_}
+use Prim.Native.Nat.{ℕ, pred, _+_, _-_, _≤_, _<_}
 use mathlib.Core.Path.{_≡_, refl, sym, ap, ap₂, subst, _∙_}
 use mathlib.Core.List.{List, _++_, map}
 use native.Mathlib.Decide.{ℕ-discrete, decLt}
@@ -8,9 +8,9 @@ use native.Mathlib.Omega.{arith}
 use lib.IntN.{ℤ, pos}
 use lib.ListN.{length, getD, take, set, replicate, length-append, length-set, length-replicate, getD-replicate, List·getD-append, List·getD-eq-default}
 use lib.Seq.{length-take-le, getD-take, getD-append-add, getD-set-same, getD-set-other, ext-getD}
+use Rattle.ladder.proofs.Tests.{order-at}
 use Rattle.ladder.specs.Matrix.{turn}
 use Rattle.ladder.specs.Walk.{bitsOf}
-use Rattle.ladder.proofs.Lists.{getD-map}
 use Rattle.ladder.proofs.Order.{place-of, place-once}
 use Rattle.ladder.proofs.Signs.{turned, turn-at, length-turn}
 use Rattle.walk.specs.Inner.Ready.{Columns}
@@ -24,13 +24,9 @@ column d order k = getD (map pred (take d order)) k 0
 pub column-at : {d : ℕ} {order : List ℕ} → Columns d order → (k : ℕ) → k < d
     → (1 ≤ getD order k 0) × (getD order k 0 - 1 ≡ column d order k) × (column d order k < d)
 column-at {d} {order} a k h =
-    let one : getD order k 0 ≡ suc (column d order k) =
-    sym (getD-take d order k 0 h) ∙ ap (λ l. getD l k 0) (a .counted)
-    ∙ getD-map-suc (map pred (take d order)) (omega (arith, a .columns .long)) in
-    (omega arith, omega arith, a .columns .inside k h)
-  where
-    getD-map-suc : (l : List ℕ) → k < length l → getD (map suc l) k 0 ≡ suc (getD l k 0)
-    getD-map-suc l b = getD-map suc l k 0 0 b
+    let at = order-at (take d order) (record { columns = a .columns; counted = a .counted }) k h in
+    let same = getD-take d order k 0 h in
+    (omega (arith, at), omega (arith, at), at .2)
 
 -- After k places: the columns at them have their signs, and past d all is 0.
 pub record Turning (d : ℕ) (signs : List ℤ) (order : List ℕ) (n : ℕ) (new : List ℤ) (k : ℕ) : Type 0 where

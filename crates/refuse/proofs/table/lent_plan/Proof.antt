@@ -36,9 +36,9 @@ returns c =
     let p = planLent (a .d) (a .l) (a .start .now) (a .bits .now) (a .row) in
     let shapes : c .before .first2 .result
     ≡ (unless (eqb (length (a .start .now)) (a .d)) 3
-    then unless (eqb (length (a .bits .now)) (sized (a .d) (a .l) (bitsLength (a .d) (a .l)))) 3) then a .third = cc in
+    then unless (eqb (length (a .bits .now)) (sized (a .d) (a .l) (bitsLength (a .d) (a .l)))) 3) then a .others = cc in
     c .plan .ensures ∙ read-lent (a .d) (a .l) (a .start .now) (a .bits .now) (a .row) (c .before .first2 .result)
-    ∙ ap (planRefusal p) shapes ∙ lent-is p (a .third)
+    ∙ ap (planRefusal p) shapes ∙ lent-is p (a .others)
 
 pub lent-plan-spec : {M : Type 1} → statement M
 lent-plan-spec =

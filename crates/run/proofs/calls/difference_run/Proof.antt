@@ -9,7 +9,7 @@ use Rattle.ladder.specs.Numbers.{startLength, registersLength}
 use Rattle.ladder.specs.Plan.{Plan, planLent}
 use Rattle.ladder.proofs.Operations.{RunOk}
 use Rattle.walk.specs.WalkState.{walkState}
-use Rattle.run.proofs.Ran.{asked, startable, difference-steps-ask, difference-ran, difference-refused, difference-kept}
+use Rattle.run.proofs.Ran.{asked, startable, difference-steps-ask, difference-ran, run-kept-refused, run-kept}
 use Rattle.run.proofs.calls.difference_run.Statement.{statement}
 use Rattle.run.proofs.calls.difference_run.Tie as tie
 
@@ -33,7 +33,7 @@ returns : tie.Need-returns
 returns c =
     let judged = c .before .before in
     let a = entry judged .args in
-    difference-refused (lent judged) (a .m) (a .elements .now) (a .registers .now) _ (judged .run-refusal .ensures) (c .before .if1 .taken) _ (c .refused .ensures)
+    run-kept-refused (lent judged) (a .m) (a .elements .now) (a .registers .now) _ (judged .run-refusal .ensures) (c .before .if1 .taken) _ (c .refused .ensures) _
 
 -- Where nothing is refused, the plan is accepted, every buffer has its length, and the elements are elements ..
 ok : (e : tie.Else1)
@@ -81,8 +81,8 @@ returns-2 c =
     let held =
     difference-ran (ok e) (words e) (s .start-registers .result) (s .start-registers .ensures) _ (walked .start-walk .ensures)
     (steps .difference-steps .result) (steps .difference-steps .ensures) in
-    difference-kept (lent judged) (a .m) (a .elements .now) (a .registers .now) _ (judged .run-refusal .ensures) (e .if1 .left) (words e) _ _
-    (c .before .before .finish .ensures .0) _ (c .before .before .finish .ensures .1) held
+    run-kept (lent judged) (a .m) (a .elements .now) (a .registers .now) _ (judged .run-refusal .ensures) (e .if1 .left) (words e) _ _
+    (c .before .before .finish .ensures .0) _ (c .before .before .finish .ensures .1) _ held
 
 pub difference-run-spec : {M : Type 1} → statement M
 difference-run-spec =

@@ -8,7 +8,7 @@ use lib.ListN.{getD}
 use Rattle.ladder.specs.Numbers.{registersLength}
 use Rattle.ladder.specs.Plan.{Plan, planLent}
 use Rattle.ladder.proofs.Operations.{RunOk}
-use Rattle.run.proofs.Ran.{asked, startable, plain-steps-ask, plain-ran, plain-refused, plain-kept}
+use Rattle.run.proofs.Ran.{asked, startable, plain-steps-ask, plain-ran, run-kept-refused, run-kept}
 use Rattle.run.proofs.calls.plain_run.Statement.{statement}
 use Rattle.run.proofs.calls.plain_run.Tie as tie
 
@@ -32,7 +32,7 @@ returns : tie.Need-returns
 returns c =
     let judged = c .before .before in
     let a = entry judged .args in
-    plain-refused (lent judged) (a .m) (a .elements .now) (a .registers .now) _ (judged .run-refusal .ensures) (c .before .if1 .taken) _ (c .refused .ensures)
+    run-kept-refused (lent judged) (a .m) (a .elements .now) (a .registers .now) _ (judged .run-refusal .ensures) (c .before .if1 .taken) _ (c .refused .ensures) _
 
 -- Where nothing is refused, the plan is accepted, every buffer has its length, and the elements are elements ..
 ok : (e : tie.Else1)
@@ -71,8 +71,8 @@ returns-2 c =
     let judged = e .before in
     let a = entry judged .args in
     let held = plain-ran (ok e) (words e) (s .start-registers .result) (s .start-registers .ensures) (steps .plain-steps .result) (steps .plain-steps .ensures) in
-    plain-kept (lent judged) (a .m) (a .elements .now) (a .registers .now) _ (judged .run-refusal .ensures) (e .if1 .left) (words e) _ _
-    (c .before .before .finish .ensures .0) _ (c .before .before .finish .ensures .1) held
+    run-kept (lent judged) (a .m) (a .elements .now) (a .registers .now) _ (judged .run-refusal .ensures) (e .if1 .left) (words e) _ _
+    (c .before .before .finish .ensures .0) _ (c .before .before .finish .ensures .1) _ held
 
 pub plain-run-spec : {M : Type 1} → statement M
 plain-run-spec =

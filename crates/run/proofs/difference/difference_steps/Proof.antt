@@ -1,14 +1,14 @@
--- `difference_steps` meets its contract. The loop's invariant is `Running`: the walk and the registers are those after the steps taken.
+-- `difference_steps` meets its contract. The loop's invariant is `DifferenceRunning`: the walk and the registers are those after the steps taken.
 -- Assumes nothing.
 use Prim.Native.Nat.{_-_}
 use borrow.Author.Needs.{needs}
 use Rattle.walk.specs.WalkState.{walkState}
-use Rattle.run.proofs.DifferenceRun.{Running, running-start, bits-there, step-asks, running-next, running-end}
+use Rattle.run.proofs.DifferenceRun.{DifferenceRunning, running-start, bits-there, step-asks, running-next, running-end}
 use Rattle.run.proofs.difference.difference_steps.Statement.{statement}
 use Rattle.run.proofs.difference.difference_steps.Tie as tie
 
 abbrev Inv-loop : tie.InvT-loop
-Inv-loop m l bits elements d walk₀ regs₀ s₀ walk regs s = Running m (walkState walk₀) l bits elements regs₀ (walkState walk) regs s
+Inv-loop m l bits elements d walk₀ regs₀ s₀ walk regs s = DifferenceRunning m (walkState walk₀) l bits elements regs₀ (walkState walk) regs s
 
 abbrev μ-loop : tie.MeasureT-loop
 μ-loop m l bits elements d walk₀ regs₀ s₀ walk regs s = l - s

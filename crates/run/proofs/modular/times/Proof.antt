@@ -1,7 +1,6 @@
 -- `times` meets its contract: signs with the same bits are the same (`same-sign`), and there are three.
 -- Assumes nothing.
 use mathlib.Core.Path.{ap}
-use borrow.Author.Needs.{needs}
 use mir.Facts.{sfits-lit}
 use mir.Syntax.{w8}
 use mir.Val.{ofZ}

@@ -1,15 +1,15 @@
--- `run::plain::plain_steps` meets its contract. The loop's invariant is `Running`: the registers are those after the steps so far.
+-- `run::plain::plain_steps` meets its contract. The loop's invariant is `PlainRunning`: the registers are those after the steps so far.
 -- Assumes nothing.
 use Prim.Native.Nat.{_-_}
 use native.Mathlib.Omega.{arith}
 use borrow.Author.Needs.{needs}
 use Rattle.ladder.proofs.Bits.{bits-room}
-use Rattle.run.proofs.PlainStepping.{Running, running-start, running-next, running-end, can-step}
+use Rattle.run.proofs.PlainStepping.{PlainRunning, running-start, running-next, running-end, can-step}
 use Rattle.run.proofs.plain.plain_steps.Statement.{statement}
 use Rattle.run.proofs.plain.plain_steps.Tie as tie
 
 abbrev Inv-loop : tie.InvT-loop
-Inv-loop m d l bits regs₀ s₀ regs s = Running m d l bits regs₀ regs s
+Inv-loop m d l bits regs₀ s₀ regs s = PlainRunning m d l bits regs₀ regs s
 
 abbrev μ-loop : tie.MeasureT-loop
 μ-loop m d l bits regs₀ s₀ regs s = l - s

@@ -7,8 +7,9 @@ use mathlib.Core.Path.{sym, ap, _∙_}
 use native.Mathlib.Omega.{arith}
 use borrow.Author.Needs.{needs}
 use lib.ListN.{length, getD, take, length-map}
+use Rattle.ladder.proofs.Tests.{order-at}
 use Rattle.ladder.specs.Registers.{modulus}
-use Rattle.run.proofs.Beginning.{Beginning, column-is, beginning-start, beginning-next, beginning-end}
+use Rattle.run.proofs.Beginning.{Beginning, beginning-start, beginning-next, beginning-end}
 use Rattle.run.proofs.start.start_registers.Statement.{statement}
 use Rattle.run.proofs.start.start_registers.Tie as tie
 
@@ -27,7 +28,7 @@ inside : (c : tie.In-loop Inv-loop μ-loop)
     → getD (entered (c .before) .args .start .now) (c .before .loop .k) 0 - 1 < length (entered (c .before) .args .elements .now)
 inside c =
     let s = entered (c .before) in
-    let at = column-is (s .pre) (c .before .loop .k) (c .loop-test .taken) in
+    let at = order-at _ (s .pre .order) (c .before .loop .k) (c .loop-test .taken) in
     omega (arith, at, s .pre .long)
 
 loop-holds : tie.Need-loop-holds Inv-loop μ-loop
@@ -40,12 +41,12 @@ cast-j : tie.Need-cast-j Inv-loop μ-loop
 cast-j c =
     let l = c .before .before in
     let s = entered l in
-    omega (arith, column-is (s .pre) (l .loop .k) (c .before .loop-test .taken), s .pre .few)
+    omega (arith, order-at _ (s .pre .order) (l .loop .k) (c .before .loop-test .taken), s .pre .few)
 
 sub-j : tie.Need-sub-j Inv-loop μ-loop
 sub-j c =
     let l = c .before .before in
-    column-is (entered l .pre) (l .loop .k) (c .before .loop-test .taken) .0
+    order-at _ (entered l .pre .order) (l .loop .k) (c .before .loop-test .taken) .0
 
 mul-add : tie.Need-mul-add Inv-loop μ-loop
 mul-add c = search needs
@@ -83,7 +84,7 @@ loop-again c =
     let s = entered l in
     let a = s .args in
     let long = length-map (a .start .now) pred in
-    let place = column-is (s .pre) (l .loop .k) (c .before .before .before .loop-test .taken) .1 in
+    let place = order-at _ (s .pre .order) (l .loop .k) (c .before .before .before .loop-test .taken) .1 in
     beginning-next (a .m) (a .elements .now) (map pred (a .start .now)) (l .loop .inv) (omega (arith, long)) (omega (arith, long, s .pre .few)) _
     (c .add .ensures ∙ ap (λ j. (getD (l .loop .regs) (l .loop .k) 0 + getD (a .elements .now) j 0) % modulus (a .m)) place)
 
