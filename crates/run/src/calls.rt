@@ -32,7 +32,9 @@ fn run_refusal(
     if early != OK {
         return early;
     }
-    refuse::first(refuse::too_large(m), refuse::element(m, elements))
+    let modulus = refuse::too_large(m);
+    let below = refuse::element(m, elements);
+    refuse::first(modulus, below)
 }
 
 // The plain run of a plan: leaves the d + 1 end registers, register i the combination of the elements by row i of the last matrix.
