@@ -136,9 +136,15 @@ impl Case {
         )
     }
 
-    fn run(&self, name: &str) -> String {
+    fn run(&self, name: &str, differences: bool) -> String {
         let mut registers = vec![u64::from(LENT); self.out];
-        let ran = run::run(&self.plan(), self.m, &self.words, &mut registers);
+        let ran = run::run(
+            &self.plan(),
+            self.m,
+            &self.words,
+            &mut registers,
+            differences,
+        );
         let head = format!(
             "{} modulus {}{}",
             self.head(name),
@@ -195,8 +201,8 @@ pub fn answers(text: &str) -> String {
             3 => case.check(),
             4 => case.trace(),
             5 => case.step(),
-            6 => case.run("plain"),
-            _ => case.run("difference"),
+            6 => case.run("plain", false),
+            _ => case.run("difference", true),
         };
         writeln!(lines, "{line}").expect("a string");
     }

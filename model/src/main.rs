@@ -1,5 +1,5 @@
-//! An independent model of the rules, in plain Rust: matrices of whole numbers, every row formed as the rules say. It shares no
-//! idea with the proved code (no walk of signs, no sums by a modulus on the way) and exists to be compared with it.
+//! A model of the rules in plain Rust, to compare the proved code with. It decodes, traces and runs by whole matrices, every row formed
+//! as the rules say; orders and signs are stepped only where the rules ask for that, in a paused walk.
 //!
 //! `model cases` reads what crates/cases/stdin has and writes what crates/cases/stdout must have.
 mod cases;

@@ -4,7 +4,7 @@ use crate::plan::{operations, step, Plan};
 use crate::refusal as refuse;
 
 /// Entry b minus entry a of two rows of a state matrix, as a byte in two's complement.
-fn difference(a: &Number, b: &Number) -> u8 {
+pub fn difference(a: &Number, b: &Number) -> u8 {
     if a == b {
         0
     } else if a.one_more() == *b {
