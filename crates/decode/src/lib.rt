@@ -7,7 +7,7 @@ mod digits;
 mod lower;
 mod rows;
 mod same;
-mod values;
+pub mod values;
 
 pub use checking::Checked;
 pub use checking::check;

@@ -11,13 +11,17 @@ use Rattle.ladder.specs.Numbers.{numberOf, scalarWords}
 use Rattle.ladder.proofs.Numbers.{own, own-below, own-at, own-within}
 use Rattle.encode.specs.Inner.Scalars.{Shaped}
 
--- A bit below place b is one of the number's lowest b bits.
+-- j bits below place b are among the number's lowest b bits ..
+low-field : (n b e j : ℕ) → j + e ≤ b → n / 2 ^ e % 2 ^ j ≡ n % 2 ^ b / 2 ^ e % 2 ^ j
+low-field n b e j h =
+    let all : b - (j + e) + (j + e) ≡ b = omega arith in
+    sym (field n j e)
+    ∙ ap (λ m. m / 2 ^ e) (sym (mod-mod-pow n (b - (j + e)) (j + e)) ∙ ap (λ k. n % 2 ^ k % 2 ^ (j + e)) all)
+    ∙ field (n % 2 ^ b) j e
+
+-- .. and so is one.
 pub low-bit : (n b e : ℕ) → e < b → n / 2 ^ e % 2 ≡ n % 2 ^ b / 2 ^ e % 2
-low-bit n b e h =
-    let all : b - suc e + (1 + e) ≡ b = omega arith in
-    sym (field n 1 e)
-    ∙ ap (λ m. m / 2 ^ e) (sym (mod-mod-pow n (b - suc e) (1 + e)) ∙ ap (λ k. n % 2 ^ k % 2 ^ (1 + e)) all)
-    ∙ field (n % 2 ^ b) 1 e
+low-bit n b e h = low-field n b e 1 (omega arith)
 
 -- The words after the lowest are what is left past 64 bits.
 past-word : (w : ℕ) (ws : List ℕ) (q r : ℕ) → w < 2 ^ 64
@@ -29,18 +33,18 @@ past-word w ws q r h =
     ∙ sym (shr-shr (w + 2 ^ 64 * numberOf ws) 64 (64 * q + r))
     ∙ ap (λ m. m / 2 ^ (64 * q + r)) (omega arith)
 
--- Bit r of word q.
-number-bit : (ws : List ℕ) → ((i : ℕ) → getD ws i 0 < 2 ^ 64) → (q r : ℕ) → r < 64
-    → numberOf ws / 2 ^ (64 * q + r) % 2 ≡ getD ws q 0 / 2 ^ r % 2
+-- j bits from bit r of word q on, all of them in that word.
+pub number-field : (ws : List ℕ) → ((i : ℕ) → getD ws i 0 < 2 ^ 64) → (q r j : ℕ) → j + r ≤ 64
+    → numberOf ws / 2 ^ (64 * q + r) % 2 ^ j ≡ getD ws q 0 / 2 ^ r % 2 ^ j
 unfolding numberOf
-number-bit [] h q r l = ap (λ m. m % 2) (zero-div (2 ^ (64 * q + r)) ∙ sym (zero-div (2 ^ r)))
-number-bit (w ∷ ws) h zero r l =
+number-field [] h q r j l = ap (λ m. m % 2 ^ j) (zero-div (2 ^ (64 * q + r)) ∙ sym (zero-div (2 ^ r)))
+number-field (w ∷ ws) h zero r j l =
     let first : 64 * 0 + r ≡ r = omega arith in
-    ap (λ e. (w + 2 ^ 64 * numberOf ws) / 2 ^ e % 2) first
-    ∙ low-bit (w + 2 ^ 64 * numberOf ws) 64 r l
-    ∙ ap (λ m. m / 2 ^ r % 2) (omega (arith, h zero))
-number-bit (w ∷ ws) h (suc q) r l =
-    ap (λ m. m % 2) (past-word w ws q r (h zero)) ∙ number-bit ws (λ i. h (suc i)) q r l
+    ap (λ e. (w + 2 ^ 64 * numberOf ws) / 2 ^ e % 2 ^ j) first
+    ∙ low-field (w + 2 ^ 64 * numberOf ws) 64 r j l
+    ∙ ap (λ m. m / 2 ^ r % 2 ^ j) (omega (arith, h zero))
+number-field (w ∷ ws) h (suc q) r j l =
+    ap (λ m. m % 2 ^ j) (past-word w ws q r (h zero)) ∙ number-field ws (λ i. h (suc i)) q r j l
 
 -- What is left past all words but the top one is in the top word.
 pub number-top : (ws : List ℕ) → ((i : ℕ) → getD ws i 0 < 2 ^ 64) → (q r : ℕ) → length ws ≡ suc q
@@ -62,7 +66,7 @@ module _ (k : ℕ) (ws : List ℕ) (words : (i : ℕ) → getD ws i 0 < 2 ^ 64) 
       let parts : i ≡ 64 * (i / 64) + i % 64 = omega arith in
       sym
       (ap (λ e. numberOf (own k ws j) / 2 ^ e % 2) parts
-      ∙ number-bit (own k ws j) (own-below k ws words j) (i / 64) (i % 64) (omega arith)
+      ∙ number-field (own k ws j) (own-below k ws words j) (i / 64) (i % 64) 1 (omega arith)
       ∙ ap (λ w. w / 2 ^ (i % 64) % 2) (own-at k ws j (i / 64) h))
 
 pub words-within : (d l : ℕ) (ws : List ℕ) → Shaped d l ws → (k j : ℕ) → k ≡ scalarWords l → j < d → j * k + k ≤ length ws

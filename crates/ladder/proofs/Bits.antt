@@ -2,6 +2,7 @@
 -- Assumes nothing.
 use Prim.Native.Nat.{ℕ, zero, suc, _+_, _-_, _*_, _/_, _%_, _^_, _≤_, _<_}
 use mathlib.Core.Path.{_≡_, refl, sym, ap, ap₂, _∙_}
+use mathlib.Core.Logic.{_↔_}
 use mathlib.Core.List.{List, [], _∷_, _++_}
 use native.Mathlib.Nat.{not-suc-le-zero, div-add-mod, div-div-eq-div-mul, pow-succ', two-pow-succ, zero-mul, suc-mul, mul-le-mul, mul-le-mul-right}
 use native.Mathlib.Decide.{decLt}
@@ -65,6 +66,11 @@ unfolding bitAt
 bitAt-byte bytes q r h =
     ap₂ (λ a b. getD bytes a 0 / 2 ^ (7 - b) % 2) {x = (8 * q + r) / 8} {y = q} {u = (8 * q + r) % 8} {v = r} (omega arith) (omega arith)
 
+-- The bits of the first of two lists of bytes come first.
+pub bitAt-append : (a b : List ℕ) (n : ℕ) → n < 8 * length a → bitAt (a ++ b) n ≡ bitAt a n
+unfolding bitAt
+bitAt-append a b n h = ap (λ c. c / 2 ^ (7 - n % 8) % 2) (List·getD-append a b 0 (n / 8) (omega arith))
+
 -- ---- bits packed
 
 -- Bits are packed into as many bytes as they want.
@@ -102,15 +108,20 @@ pub packBits-unique : (a b : List ℕ) → length a ≡ length b → ((i : ℕ) 
 packBits-unique a b e ha hb p =
     ext-getD 0 a b e (λ i l. sym (bitAt-packBits a ha i) ∙ ap (λ bytes. bitAt bytes i) p ∙ bitAt-packBits b hb i)
 
--- Two lists of as many bytes with the same bits are the same.
+-- Two bytes with the same bits are the same ..
+same-byte : (a b : List ℕ) (q : ℕ) → getD a q 0 < 256 → getD b q 0 < 256
+    → ((r : ℕ) → r < 8 → bitAt a (8 * q + r) ≡ bitAt b (8 * q + r)) → getD a q 0 ≡ getD b q 0
+same-byte a b q ha hb p = same-bits 8 (getD a q 0) (getD b q 0) ha hb bit
+  where
+    bit : (j : ℕ) → j < 8 → getD a q 0 / 2 ^ j % 2 ≡ getD b q 0 / 2 ^ j % 2
+    bit j h =
+        let back : 7 - (7 - j) ≡ j = omega arith in
+        rw back at (sym (bitAt-byte a q (7 - j) (omega arith)) ∙ p (7 - j) (omega arith) ∙ bitAt-byte b q (7 - j) (omega arith))
+
+-- .. and so are two lists of as many.
 pub bytes-unique : (a b : List ℕ) → length a ≡ length b → ((i : ℕ) → getD a i 0 < 256) → ((i : ℕ) → getD b i 0 < 256)
     → ((n : ℕ) → bitAt a n ≡ bitAt b n) → a ≡ b
-bytes-unique a b e ha hb p = ext-getD 0 a b e (λ q l. same-bits 8 (getD a q 0) (getD b q 0) (ha q) (hb q) (bit q))
-  where
-    bit : (q j : ℕ) → j < 8 → getD a q 0 / 2 ^ j % 2 ≡ getD b q 0 / 2 ^ j % 2
-    bit q j h =
-        let back : 7 - (7 - j) ≡ j = omega arith in
-        rw back at (sym (bitAt-byte a q (7 - j) (omega arith)) ∙ p (8 * q + (7 - j)) ∙ bitAt-byte b q (7 - j) (omega arith))
+bytes-unique a b e ha hb p = ext-getD 0 a b e (λ q l. same-byte a b q (ha q) (hb q) (λ r h. p (8 * q + r)))
 
 -- Bytes are packed from their own bits, where the filling bits are 0.
 pub pack-bits-of : (bytes : List ℕ) (n : ℕ) → ((i : ℕ) → getD bytes i 0 < 256) → length bytes ≡ bytesFor n
@@ -181,6 +192,11 @@ pub bits-room : (d l s n : ℕ) → s < l → n ≡ bitsLength d l → s * d + d
 unfolding bitsLength bytesFor
 bits-room d l s n h e = omega (arith, mul-le-mul-right d h, suc-mul s d)
 
+-- .. as all of them do.
+pub bits-within : (d l n : ℕ) {k : ℕ} → k ≡ bitsLength d l → n < l * d → n < 8 * k
+unfolding bitsLength bytesFor
+bits-within d l n e h = omega arith
+
 -- The bits of a plan's step are 0 or 1.
 pub stepBits-below : (p : Plan) (s k : ℕ) → getD (stepBits p s) k 0 < 2
 unfolding bitsAt
@@ -203,3 +219,42 @@ bits-in-order bytes d (suc l) =
 -- The bits of a plan are at most 4,608.
 pub bits-bound : (d l : ℕ) → d ≤ 8 → l ≤ 576 → l * d ≤ 4608
 bits-bound d l h g = omega (arith, mul-le-mul {n₁ = l} {m₁ = d} {n₂ = 576} {m₂ = 8} g h)
+
+-- ---- the bits of a plan, packed
+
+module _ (bytes : List ℕ) (d l : ℕ) where
+  packed-at : (n : ℕ) → bitAt (packBits (joined l (bitsAt d bytes))) n ≡ getD (tabulate (l * d) (bitAt bytes)) n 0
+  unfolding bitsAt
+  packed-at n =
+      ap (λ b. bitAt (packBits b) n) (bits-in-order bytes d l)
+      ∙ bitAt-packBits (tabulate (l * d) (bitAt bytes)) (tabulate-below 2 (l * d) (bitAt bytes) (omega arith) (λ k h. bitAt-below bytes k)) n
+
+  packed-small : (q : ℕ) → getD (packBits (joined l (bitsAt d bytes))) q 0 < 256
+  unfolding bitsAt
+  packed-small =
+      packBits-below (joined l (bitsAt d bytes))
+      (joined-below 2 l (bitsAt d bytes) (omega arith) (λ s. tabulate-below 2 d _ (omega arith) (λ k h. bitAt-below bytes (s * d + k))))
+
+  -- The bits of all steps are packed as they are ..
+  pub packed-bit : (n : ℕ) → n < l * d → bitAt (packBits (joined l (bitsAt d bytes))) n ≡ bitAt bytes n
+  packed-bit n h = packed-at n ∙ getD-tabulate (l * d) (bitAt bytes) n 0 h
+
+  -- .. and are filled with 0.
+  pub packed-filling : (n : ℕ) → l * d ≤ n → bitAt (packBits (joined l (bitsAt d bytes))) n ≡ 0
+  packed-filling n h =
+      packed-at n ∙ List·getD-eq-default (tabulate (l * d) (bitAt bytes)) 0 (omega (arith, length-tabulate (l * d) (bitAt bytes)))
+
+  -- A byte of plan bits alone is packed as it is.
+  pub packed-byte : ((i : ℕ) → getD bytes i 0 < 256) → (q : ℕ) → 8 * q + 8 ≤ l * d
+      → getD (packBits (joined l (bitsAt d bytes))) q 0 ≡ getD bytes q 0
+  packed-byte small q h =
+      same-byte (packBits (joined l (bitsAt d bytes))) bytes q (packed-small q) (small q) (λ r k. packed-bit (8 * q + r) (omega arith))
+
+  -- So lent bytes are what is packed of them exactly where their filling bits are 0.
+  pub packed-same : ((i : ℕ) → getD bytes i 0 < 256) → length bytes ≡ bitsLength d l
+      → packBits (joined l (bitsAt d bytes)) ≡ bytes ↔ ((n : ℕ) → l * d ≤ n → bitAt bytes n ≡ 0)
+  unfolding bitsAt bitsLength
+  packed-same small e = (
+    λ same n h. ap (λ b. bitAt b n) (sym same) ∙ packed-filling n h,
+    λ z. ap packBits (bits-in-order bytes d l) ∙ pack-bits-of bytes (l * d) small e z,
+  )

@@ -1,37 +1,23 @@
 -- Unpacking what pack wrote, with anything before it, gives the same numbers, start order and plan bits, and refuses nothing.
 -- Assumes nothing.
-use Prim.Native.Nat.{ℕ, _+_, _-_, _*_, _<_}
+use Prim.Native.Nat.{ℕ, _+_, _*_, _<_}
 use mathlib.Core.Path.{_≡_, refl, sym, ap, ap₂, subst, _∙_}
 use mathlib.Core.List.{List, _∷_, _++_, map, append-assoc}
 use native.Mathlib.Nat.{mul-le-mul}
 use native.Mathlib.Omega.{arith}
-use lib.ListN.{length, getD, take, drop, length-append}
-use lib.Seq.{take-at, drop-at, drop-append-add, getD-append-add}
+use lib.ListN.{length, take, drop, length-append}
+use lib.Seq.{take-at, drop-at}
 use Rattle.ladder.specs.Lists.{joined}
-use Rattle.ladder.specs.Numbers.{bitAt, bytesFor, packBits, bitsLength, bitsAt}
+use Rattle.ladder.specs.Numbers.{bitAt, bytesFor, packBits, bitsLength}
 use Rattle.ladder.specs.Plan.{Plan, startOrder, stepBits}
 use Rattle.ladder.specs.PlanFile.{mark, trailerSize, bodyLength, fileLength, trailerByte, dIn, answerIn, lIn, distanceIn, markIn, bodyPlace, bodyIn, planIn, twoBytes, fourBytes, fileOf}
 use Rattle.ladder.specs.Refusals.{unpackRefusal}
-use Rattle.ladder.proofs.Lists.{getD-tabulate}
-use Rattle.ladder.proofs.Bits.{bitAt-packBits, joined-below, stepBits-below, length-stepBits, bits-in-order}
+use Rattle.ladder.proofs.Bits.{length-stepBits, packed-bit}
 use Rattle.ladder.proofs.Refusals.{Accepted}
 use Rattle.ladder.proofs.Operations.{unpack-none}
 use Rattle.ladder.proofs.SamePlan.{SamePlan, same-start}
 use Rattle.ladder.proofs.Lengths.{packed-length, start-long, file-length}
-
--- ---- any file of twelve bytes and what stands before them
-
-trailer-byte : (X T : List ℕ) → length T ≡ 12 → (i : ℕ) → trailerByte (X ++ T) i ≡ getD T i 0
-unfolding trailerByte trailerSize
-trailer-byte X T e i =
-    let place : length (X ++ T) - 12 + i ≡ length X + i = omega (arith, length-append X T) in
-    ap (λ n. getD (X ++ T) n 0) place ∙ getD-append-add X T i 0
-
-mark-at : (X T : List ℕ) → length T ≡ 12 → markIn (X ++ T) ≡ drop 8 T
-unfolding markIn
-mark-at X T e =
-    let place : length (X ++ T) - 4 ≡ length X + 8 = omega (arith, length-append X T) in
-    ap (λ n. drop n (X ++ T)) place ∙ drop-append-add X T 8
+use Rattle.ladder.proofs.Prefaces.{byte-after, mark-after}
 
 -- A plan that says the same as an accepted one is accepted.
 pub accepted-same : {q p : Plan} → SamePlan q p → Accepted p → Accepted q
@@ -54,7 +40,7 @@ abbrev packedBits : Plan → List ℕ
 packedBits p = packBits (joined (p .l) (stepBits p))
 
 -- The trailer that pack writes.
-abbrev trailerOf : Plan → List ℕ
+abbrev pub trailerOf : Plan → List ℕ
 trailerOf p = p .d ∷ p .answer ∷ twoBytes (p .l) ++ fourBytes (bodyLength (p .d) (p .l)) ++ mark
 
 module _ (p : Plan) (ok : Accepted p) (pre : List ℕ) where
@@ -62,34 +48,34 @@ module _ (p : Plan) (ok : Accepted p) (pre : List ℕ) where
   unfolding fileOf
   parts = sym (append-assoc pre (p .start ++ packedBits p) (trailerOf p))
 
-  byte : (i : ℕ) → trailerByte (pre ++ fileOf p) i ≡ getD (trailerOf p) i 0
+  byte : (i : ℕ) → trailerByte (pre ++ fileOf p) i ≡ trailerByte (trailerOf p) i
   unfolding twoBytes fourBytes mark
-  byte i = ap (λ f. trailerByte f i) parts ∙ trailer-byte (pre ++ (p .start ++ packedBits p)) (trailerOf p) refl i
+  byte i = ap (λ f. trailerByte f i) parts ∙ byte-after (pre ++ (p .start ++ packedBits p)) (trailerOf p) (omega arith) i
 
   -- The trailer has the plan's d ..
   pub d-back : dIn (pre ++ fileOf p) ≡ p .d
-  unfolding dIn
+  unfolding dIn trailerByte trailerSize twoBytes fourBytes mark
   d-back = byte 0
 
   -- .. its answer row ..
   pub answer-back : answerIn (pre ++ fileOf p) ≡ p .answer
-  unfolding answerIn
+  unfolding answerIn trailerByte trailerSize twoBytes fourBytes mark
   answer-back = byte 1
 
   -- .. its l ..
   pub l-back : lIn (pre ++ fileOf p) ≡ p .l
-  unfolding lIn twoBytes
+  unfolding lIn trailerByte trailerSize twoBytes fourBytes mark
   l-back = omega (arith, byte 2, byte 3, ok .lHigh)
 
   -- .. its body's length ..
   pub distance-back : distanceIn (pre ++ fileOf p) ≡ bodyLength (p .d) (p .l)
-  unfolding distanceIn twoBytes fourBytes bodyLength bitsLength bytesFor
+  unfolding distanceIn trailerByte trailerSize twoBytes fourBytes mark bodyLength bitsLength bytesFor
   distance-back = omega (arith, byte 4, byte 5, byte 6, byte 7, ok .dHigh, mul-le-mul (ok .lHigh) (ok .dHigh))
 
   -- .. and the mark.
   pub mark-back : markIn (pre ++ fileOf p) ≡ mark
-  unfolding twoBytes fourBytes mark
-  mark-back = ap markIn parts ∙ mark-at (pre ++ (p .start ++ packedBits p)) (trailerOf p) refl
+  unfolding markIn twoBytes fourBytes mark
+  mark-back = ap markIn parts ∙ mark-after (pre ++ (p .start ++ packedBits p)) (trailerOf p) (omega arith)
 
   long : length (pre ++ fileOf p) ≡ length pre + (bodyLength (p .d) (p .l) + trailerSize)
   unfolding fileLength
@@ -116,16 +102,14 @@ module _ (p : Plan) (ok : Accepted p) (pre : List ℕ) where
 
   -- So it holds the same plan: d, l, start order, answer row and the bits of every step.
   pub plan-back : SamePlan (planIn (pre ++ fileOf p)) p
-  unfolding planIn bitsAt
+  unfolding planIn
   plan-back = record {
     d = d-back;
     l = l-back;
     start = ap₂ take d-back body-back ∙ take-at (p .start) (packedBits p) (p .d) (start-long p ok);
     bits = λ n h.
         ap (λ b. bitAt b n) packed-back
-        ∙ bitAt-packBits (joined (p .l) (stepBits p)) (joined-below 2 (p .l) (stepBits p) (omega arith) (stepBits-below p)) n
-        ∙ ap (λ b. getD b n 0) (bits-in-order (p .bits) (p .d) (p .l))
-        ∙ getD-tabulate (p .l * p .d) (bitAt (p .bits)) n 0 (subst (λ k. n < k) (ap₂ (λ l d. l * d) l-back d-back) h);
+        ∙ packed-bit (p .bits) (p .d) (p .l) n (subst (λ k. n < k) (ap₂ (λ l d. l * d) l-back d-back) h);
     answer = answer-back;
   }
 

@@ -26,5 +26,9 @@ pub mod Demand2
 pub mod SamePlan
 pub mod Difference
 pub mod Lengths
+pub mod Prefaces
 pub mod Files
+pub mod AcceptedFiles
 pub mod WorkedCases
+pub mod Numerals
+pub mod Texts

@@ -6,7 +6,7 @@ use mathlib.Core.Logic.{_≢_}
 use mathlib.Core.Bool.{Bool, true, false, cond}
 use mathlib.Core.List.{List, [], _∷_, _++_, map}
 use native.Mathlib.Nat.{le-of-suc-le-suc, not-suc-le-zero, zero-add, suc-add, zero-mul, suc-mul}
-use native.Mathlib.Decide.{ℕ-discrete}
+use native.Mathlib.Decide.{ℕ-discrete, decLt}
 use native.Mathlib.Omega.{arith}
 use lib.Dec.{T, eqb, eqb→eq, eqb-refl}
 use lib.ListN.{length, getD, length-append}
@@ -89,6 +89,20 @@ length-joined d (suc n) f h =
     length-append (joined n f) (f n)
     ∙ ap₂ (λ a b. a + b) (length-joined d n f (λ s l. h s (omega arith))) (h n (omega arith))
     ∙ sym (suc-mul n d)
+
+-- More lists joined are no shorter.
+pub length-joined-mono : {A : Type 0} (f : ℕ → List A) (m n : ℕ) → m ≤ n → length (joined m f) ≤ length (joined n f)
+unfolding joined
+length-joined-mono f m zero h =
+    let none : m ≡ 0 = omega arith in
+    omega (arith, ap (λ k. length (joined k f)) none)
+length-joined-mono f m (suc n) h = go (decLt n m) (length-joined-mono f m n)
+  where
+    go : Dec (n < m) → (m ≤ n → length (joined m f) ≤ length (joined n f)) → length (joined m f) ≤ length (joined (suc n) f)
+    go (yes l) rest =
+        let all : m ≡ suc n = omega arith in
+        omega (arith, ap (λ k. length (joined k f)) all)
+    go (no l) rest = omega (arith, rest (omega arith), length-append (joined n f) (f n))
 
 -- Two rules that agree below n are joined to the same list.
 pub joined-same : {A : Type 0} (n : ℕ) (f g : ℕ → List A) → ((s : ℕ) → s < n → f s ≡ g s) → joined n f ≡ joined n g

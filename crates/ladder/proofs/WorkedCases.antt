@@ -6,19 +6,20 @@ use mathlib.Core.Path.{_≡_, refl}
 use mathlib.Core.List.{List, [], _∷_, flatten}
 use Rattle.ladder.specs.Lists.{tabulate, joined, same, count, ones, odds, all}
 use Rattle.ladder.specs.Numbers.{numberOf, bitAt, byteOf, bytesFor, packBits, bitsLength, bitsAt}
-use Rattle.ladder.specs.Matrix.{Row, Matrix, addRows, doubleRow, bump, rowsFrom, startMatrix, pairsFrom, additions, step, orderFrom, stepOrder, matrixAfter, orderAfter}
-use Rattle.ladder.specs.Plan.{startOrder, stepBits, matrixIn, orderIn, lastMatrix, endOrder, answerRow}
+use Rattle.ladder.specs.Matrix.{Matrix, addRows, doubleRow, bump, rowsFrom, startMatrix, pairsFrom, additions, step, orderFrom, stepOrder, matrixAfter, orderAfter}
+use Rattle.ladder.specs.Plan.{startOrder, matrixIn, orderIn, lastMatrix, endOrder, answerRow}
 use Rattle.ladder.specs.Encoding.{scalarBit, xor, dealt, deal, picked, passed, rearrange, orderToGo, encodedStart, encodedBits, encodeWith, houseOrder, encode}
 use Rattle.ladder.specs.Trace.{difference, operations, entryOf, block, blockIn, entriesIn, signedByte, entryBytes, traceBytes, doublings, additionCount}
 use Rattle.ladder.specs.Registers.{stepRegisters, registersAfter, modulus, sumOf, combination, timesSigned, signedSum, plainRule, differenceAdd, differenceRule, startFrom, startRegisters, plainRegisters, differenceRegisters, answerRegister}
 use Rattle.ladder.specs.PlanFile.{mark, trailerSize, bodyLength, trailerByte, dIn, answerIn, lIn, distanceIn, markIn, bodyPlace, bodyIn, planIn, twoBytes, fourBytes, fileOf}
-use Rattle.ladder.specs.Refusals.{_then_, unless, within, dim, len, eachOnce, isArrangement, order, answer, sameNumbers, trailer, distance, planRefusal, unpackRefusal}
+use Rattle.ladder.specs.Refusals.{_then_, unless, within, dim, len, eachOnce, isArrangement, order, answer, sameNumbers, trailer, distance, planRefusal, unpackRefusal, refusing, big, listRefusal}
+use Rattle.ladder.specs.Listing.{digitsWithin, digitsOf, character, decimal, hexadecimal, spaced, line, planWord, startWord, valueWord, planLine, startLine, stepLine, valueLine, planText, listingText}
 
 pub data Case : Type 0 where
   -- d, l and scalars; start order, bytes and answer row; last rows
   encoding : ℕ → ℕ → List ℕ → List ℕ → List ℕ → ℕ → Matrix → Case
-  -- d, l and scalars; the bits of each step; the value
-  listing : ℕ → ℕ → List ℕ → List (List ℕ) → Row → Case
+  -- a plan file's bytes; its listing
+  listing : List ℕ → List ℕ → Case
   -- d, l and scalars; the trace's bytes, doublings and additions
   tracing : ℕ → ℕ → List ℕ → List ℕ → ℕ → ℕ → Case
   -- d, l and scalars; modulus and elements; end registers and answer, by both rules
@@ -35,8 +36,7 @@ Holds (encoding d l scalars start bits answer last) =
     (encode d l scalars ≡ record { d = d; l = l; start = start; bits = bits; answer = answer })
     × (lastMatrix (encode d l scalars) ≡ last)
     × (answerRow (encode d l scalars) ≡ scalars)
-Holds (listing d l scalars steps value) =
-    (tabulate l (stepBits (encode d l scalars)) ≡ steps) × (answerRow (encode d l scalars) ≡ value)
+Holds (listing file text) = listingText file ≡ text
 Holds (tracing d l scalars bytes doubled added) =
     (traceBytes (entriesIn (encode d l scalars)) ≡ bytes)
     × (doublings (entriesIn (encode d l scalars)) ≡ doubled)
@@ -71,9 +71,18 @@ cases =
     ∷ encoding 3 2 (1 ∷ 2 ∷ 3 ∷ []) (3 ∷ 2 ∷ 1 ∷ []) (0xb4 ∷ []) 3
     ((2 ∷ 2 ∷ 4 ∷ []) ∷ (1 ∷ 2 ∷ 4 ∷ []) ∷ (1 ∷ 2 ∷ 3 ∷ []) ∷ (1 ∷ 3 ∷ 3 ∷ []) ∷ [])
     ∷ encoding 2 7 (73 ∷ 59 ∷ []) (1 ∷ 2 ∷ []) (0x72 ∷ 0xd8 ∷ []) 3 ((74 ∷ 60 ∷ []) ∷ (73 ∷ 60 ∷ []) ∷ (73 ∷ 59 ∷ []) ∷ [])
-    ∷ listing 2 7 (73 ∷ 59 ∷ [])
-    ((0 ∷ 1 ∷ []) ∷ (1 ∷ 1 ∷ []) ∷ (0 ∷ 0 ∷ []) ∷ (1 ∷ 0 ∷ []) ∷ (1 ∷ 1 ∷ []) ∷ (0 ∷ 1 ∷ []) ∷ (1 ∷ 0 ∷ []) ∷ [])
-    (0x49 ∷ 0x3b ∷ [])
+    ∷ listing
+    (0x01 ∷ 0x02 ∷ 0x72 ∷ 0xd8 ∷ 0x02 ∷ 0x03 ∷ 0x07 ∷ 0x00 ∷ 0x04 ∷ 0x00 ∷ 0x00 ∷ 0x00 ∷ 0x64 ∷ 0x6d ∷ 0x75 ∷ 0x6c ∷ [])
+    (0x70 ∷ 0x6c ∷ 0x61 ∷ 0x6e ∷ 0x20 ∷ 0x32 ∷ 0x20 ∷ 0x37 ∷ 0x20 ∷ 0x33 ∷ 0x0a ∷
+    0x73 ∷ 0x74 ∷ 0x61 ∷ 0x72 ∷ 0x74 ∷ 0x20 ∷ 0x31 ∷ 0x20 ∷ 0x32 ∷ 0x0a ∷
+    0x31 ∷ 0x20 ∷ 0x30 ∷ 0x31 ∷ 0x0a ∷
+    0x32 ∷ 0x20 ∷ 0x31 ∷ 0x31 ∷ 0x0a ∷
+    0x33 ∷ 0x20 ∷ 0x30 ∷ 0x30 ∷ 0x0a ∷
+    0x34 ∷ 0x20 ∷ 0x31 ∷ 0x30 ∷ 0x0a ∷
+    0x35 ∷ 0x20 ∷ 0x31 ∷ 0x31 ∷ 0x0a ∷
+    0x36 ∷ 0x20 ∷ 0x30 ∷ 0x31 ∷ 0x0a ∷
+    0x37 ∷ 0x20 ∷ 0x31 ∷ 0x30 ∷ 0x0a ∷
+    0x76 ∷ 0x61 ∷ 0x6c ∷ 0x75 ∷ 0x65 ∷ 0x20 ∷ 0x34 ∷ 0x39 ∷ 0x20 ∷ 0x33 ∷ 0x62 ∷ 0x0a ∷ [])
     ∷ packing 2 7 (73 ∷ 59 ∷ [])
     (0x01 ∷ 0x02 ∷ 0x72 ∷ 0xd8 ∷ 0x02 ∷ 0x03 ∷ 0x07 ∷ 0x00 ∷ 0x04 ∷ 0x00 ∷ 0x00 ∷ 0x00 ∷ 0x64 ∷ 0x6d ∷ 0x75 ∷ 0x6c ∷ [])
     ∷ wording (5 ∷ 1 ∷ []) (2 ^ 64 + 5)
@@ -84,7 +93,7 @@ cases =
     ∷ []
 
 pub cases-hold : AllHold cases
-unfolding tabulate joined same count ones odds all numberOf bitAt byteOf bytesFor packBits bitsLength addRows doubleRow bump rowsFrom startMatrix pairsFrom additions step orderFrom stepOrder matrixAfter orderAfter startOrder bitsAt matrixIn orderIn lastMatrix endOrder answerRow scalarBit xor dealt deal picked passed rearrange orderToGo encodedStart encodedBits encodeWith houseOrder encode difference operations entryOf block blockIn entriesIn signedByte entryBytes traceBytes doublings additionCount stepRegisters registersAfter modulus sumOf combination timesSigned signedSum plainRule differenceAdd differenceRule startFrom startRegisters plainRegisters differenceRegisters answerRegister flatten mark trailerSize bodyLength trailerByte dIn answerIn lIn distanceIn markIn bodyPlace bodyIn planIn twoBytes fourBytes fileOf _then_ unless within dim len eachOnce isArrangement order answer sameNumbers trailer distance planRefusal unpackRefusal
+unfolding tabulate joined same count ones odds all numberOf bitAt byteOf bytesFor packBits bitsLength addRows doubleRow bump rowsFrom startMatrix pairsFrom additions step orderFrom stepOrder matrixAfter orderAfter startOrder bitsAt matrixIn orderIn lastMatrix endOrder answerRow scalarBit xor dealt deal picked passed rearrange orderToGo encodedStart encodedBits encodeWith houseOrder encode difference operations entryOf block blockIn entriesIn signedByte entryBytes traceBytes doublings additionCount stepRegisters registersAfter modulus sumOf combination timesSigned signedSum plainRule differenceAdd differenceRule startFrom startRegisters plainRegisters differenceRegisters answerRegister flatten mark trailerSize bodyLength trailerByte dIn answerIn lIn distanceIn markIn bodyPlace bodyIn planIn twoBytes fourBytes fileOf _then_ unless within dim len eachOnce isArrangement order answer sameNumbers trailer distance planRefusal unpackRefusal refusing big listRefusal digitsWithin digitsOf character decimal hexadecimal spaced line planWord startWord valueWord planLine startLine stepLine valueLine planText listingText
 cases-hold = (
   (refl, refl, refl),
   (
@@ -105,7 +114,7 @@ cases-hold = (
                   (refl, refl, refl),
                   (
                     (refl, refl, refl),
-                    ((refl, refl, refl), ((refl, refl, refl), ((refl, refl), ((refl, refl, refl), (refl, (refl, tt)))))),
+                    ((refl, refl, refl), ((refl, refl, refl), (refl, ((refl, refl, refl), (refl, (refl, tt)))))),
                   ),
                 ),
               ),

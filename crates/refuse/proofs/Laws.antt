@@ -19,11 +19,19 @@ use Rattle.ladder.specs.Plan.{Plan, planLent}
 use Rattle.ladder.specs.Refusals.{_then_, unless, within, dim, len, order, answer, element, planRefusal, planShape, shape, eachOnce, isArrangement}
 use Rattle.refuse.specs.Inner.{inRange, sized, planRead, lentRefusal}
 
+-- ---- two tests
+
+pub both-true : (a b : Bool) → a ≡ true → b ≡ true → a && b ≡ true
+both-true a b e f = ap₂ (λ s t. s && t) e f
+
+pub first-false : (a b : Bool) → a ≡ false → a && b ≡ false
+first-false a b e = ap (λ t. t && b) e
+
 -- ---- a range
 
 pub within-low : (lo hi n : ℕ) → n < lo → within lo hi n ≡ false
 unfolding within
-within-low lo hi n h = ap (λ t. t && leb n hi) (lt-leb lo n h)
+within-low lo hi n h = first-false (leb lo n) (leb n hi) (lt-leb lo n h)
 
 pub within-high : (lo hi n : ℕ) → hi < n → within lo hi n ≡ false
 unfolding within
@@ -55,9 +63,6 @@ then-same (suc m) n k e = refl
 
 -- ---- lengths
 
-pub both-true : (a b : Bool) → a ≡ true → b ≡ true → a && b ≡ true
-both-true a b e f = ap₂ (λ s t. s && t) e f
-
 pub sized-yes : (d l n : ℕ) → inRange d l ≡ true → sized d l n ≡ n
 unfolding sized
 sized-yes d l n e = ap (λ t. cond t n 0) e
@@ -81,7 +86,7 @@ in-range d l e =
 
 pub range-no : (d l : ℕ) → within 1 8 d ≡ false → inRange d l ≡ false
 unfolding inRange
-range-no d l e = ap (λ t. t && within 1 576 l) e
+range-no d l e = first-false (within 1 8 d) (within 1 576 l) e
 
 pub range-then : (d l : ℕ) → within 1 8 d ≡ true → inRange d l ≡ within 1 576 l
 unfolding inRange

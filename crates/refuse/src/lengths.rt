@@ -4,6 +4,7 @@ use crate::ranges::MOST_STEPS;
 use crate::ranges::within;
 ghost use mathlib.Core.Path.{_≡_};
 ghost use Rattle.ladder.specs.Numbers.{scalarsLength, valuesLength, bitsLength, traceLength, registersLength};
+ghost use Rattle.ladder.specs.PlanFile.{fileLength};
 ghost use Rattle.refuse.specs.Inner.{inRange, sized};
 
 fn in_range(d: u64, l: u64) -> bool
@@ -58,4 +59,14 @@ pub fn registers_length(d: u64, l: u64) -> u64
         return 0;
     }
     d + 1
+}
+
+// Start order, bits and a trailer of 12 bytes.
+pub fn file_length(d: u64, l: u64) -> u64
+    ensures { λ r. ⌜ r ≡ sized d l (fileLength d l) ⌝ }
+{
+    if !in_range(d, l) {
+        return 0;
+    }
+    d + bits_length(d, l) + 12
 }

@@ -1,4 +1,5 @@
-// A function for each number of the table, and the first refusal that applies. Number 4 stands with the scalars.
+// A function for each number of the table that any plan can meet, and the first refusal that applies. Number 4 stands with the scalars, 9
+// with the plan file, 10 with the listing.
 use crate::elements::all_below;
 use crate::lengths::bits_length;
 use crate::orders::arrangement;
@@ -29,6 +30,10 @@ pub const ROW: u64 = 6;
 pub const MODULUS: u64 = 7;
 
 pub const ELEMENT: u64 = 8;
+
+pub const TRAILER: u64 = 9;
+
+pub const BIG: u64 = 10;
 
 // The first of two refusals that applies.
 pub fn first(a: u64, b: u64) -> u64

@@ -1,0 +1,121 @@
+-- `write_file` meets its contract: what the three copies and the cleared byte leave is the plan's file (`laid`).
+-- Assumes nothing.
+use mathlib.Core.Path.{_≡_, _∙_}
+use native.Mathlib.Omega.{arith}
+use lib.ListN.{length, length-set}
+use Rattle.planfile.proofs.Laid.{sizes, laid}
+use borrow.Author.Needs.{needs}
+use Rattle.planfile.proofs.packing.write_file.Statement.{statement}
+use Rattle.planfile.proofs.packing.write_file.Tie as tie
+
+-- The function's entry.
+abbrev entry : tie.After-copy2 → tie.Start
+entry c = c .before .before .before .before .before .before .before .before .before
+
+-- Two copies leave the file as long as it was.
+kept : (c : tie.After-copy2) → length (c .copy2 .last .1 .0) ≡ length (entry c .args .file .now)
+kept c = c .copy2 .kept .1 .0 ∙ c .before .before .before .before .copy .kept .1 .0
+
+add-body : tie.Need-add-body
+add-body c = search needs
+
+mul-filling : tie.Need-mul-filling
+mul-filling c = let s = sizes (c .before .before .before .pre) in omega arith
+
+mul-filling-2 : tie.Need-mul-filling-2
+mul-filling-2 c = let s = sizes (c .before .before .before .pre) in omega arith
+
+sub-filling : tie.Need-sub-filling
+sub-filling c = sizes (c .before .before .before .pre) .filled
+
+copy-requires : tie.Need-copy-requires
+copy-requires c κs =
+    let p = c .before .before .before .before .pre in
+    let s = sizes p in
+    omega (arith, p .startLong)
+
+copy-requires-2 : tie.Need-copy-requires-2
+copy-requires-2 c κs =
+    let r = c .before .before .before in
+    let s = sizes (r .before .before .before .before .before .pre) in
+    omega (arith, r .copy .kept .1 .0)
+
+sub-cleared : tie.Need-sub-cleared
+sub-cleared c = search needs
+
+slice-read-cleared : tie.Need-slice-read-cleared
+slice-read-cleared c =
+    let two = c .before .before .before in
+    let s = sizes (entry two .pre) in
+    omega (arith, kept two)
+
+cleared-requires : tie.Need-cleared-requires
+cleared-requires c κs = let s = sizes (entry (c .before .before .before) .pre) in omega arith
+
+sub-file : tie.Need-sub-file
+sub-file c = search needs
+
+slice-write-file : tie.Need-slice-write-file
+slice-write-file c =
+    let two = c .before .before .before .before in
+    let s = sizes (entry two .pre) in
+    omega (arith, kept two)
+
+cast-trailer-of : tie.Need-cast-trailer-of
+cast-trailer-of c = search needs
+
+cast-trailer-of-2 : tie.Need-cast-trailer-of-2
+cast-trailer-of-2 c = search needs
+
+trailer-of-requires : tie.Need-trailer-of-requires
+trailer-of-requires c κs = search needs
+
+slice-aggregate-copy : tie.Need-slice-aggregate-copy
+slice-aggregate-copy c = search needs
+
+copy-requires-3 : tie.Need-copy-requires-3
+copy-requires-3 c κs =
+    let made = c .before .before in
+    let two = made .before .before .before .before .before in
+    let s = sizes (entry two .pre) in
+    let twelve : length (made .trailer-of .result) ≡ 12 = search needs in
+    simp length-set (omega (arith, kept two))
+
+same-length : tie.Need-same-length
+same-length c =
+    let three = c .before .before in
+    (simp length-set at (three .copy3 .kept .1 .0)) ∙ kept (three .before .before .before .before .before .before .before .before)
+
+returns : tie.Need-returns
+returns c =
+    let three = c .before .before in
+    let made = three .before .before .before in
+    let cut = made .before in
+    let two = cut .before .before .before .before in
+    let one = two .before .before .before .before in
+    let known = one .before .before .before in
+    laid (known .before .before .pre) (λ i. omega (arith, known .shared-slice-known2 .given i)) _ (one .copy .ensures) _ (two .copy2 .ensures)
+    _ (cut .cleared .ensures) _ (made .trailer-of .ensures) _ (three .copy3 .ensures)
+
+pub write-file-spec : {M : Type 1} → statement M
+write-file-spec =
+    tie.close
+    (tie.spec
+    add-body
+    mul-filling
+    mul-filling-2
+    sub-filling
+    copy-requires
+    copy-requires-2
+    sub-cleared
+    slice-read-cleared
+    cleared-requires
+    sub-file
+    slice-write-file
+    cast-trailer-of
+    cast-trailer-of-2
+    trailer-of-requires
+    slice-aggregate-copy
+    copy-requires-3
+    same-length
+    returns)

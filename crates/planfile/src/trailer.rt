@@ -1,0 +1,107 @@
+// The trailer at the end of a file: its fields stand in the last 12 bytes, the mark in the last four.
+use refuse::OK;
+use refuse::TRAILER;
+ghost use mathlib.Core.Path.{_≡_};
+ghost use mathlib.Core.List.{_∷_, _++_};
+ghost use Prim.Native.Nat.{_≤_, _<_};
+ghost use lib.ListN.{length};
+ghost use Rattle.ladder.specs.PlanFile.{markIn, twoBytes, fourBytes, mark};
+ghost use Rattle.ladder.specs.Refusals.{sameNumbers};
+ghost use Rattle.planfile.specs.Inner.{FieldsRead, TrailerRead};
+
+// The bytes of a plan file's trailer.
+pub const TRAILER_SIZE: usize = 12;
+
+// The four bytes that a plan file ends with.
+pub const MARK: [u8; 4] = *b"dmul";
+
+// A refusal, and what a trailer says, which counts only where the refusal is 0.
+pub struct Trailer {
+    pub refusal: u64,
+    pub d: u64,
+    pub row: u64,
+    pub l: u64,
+    pub distance: u64,
+}
+
+fn wide(x: u8) -> u64
+    ensures { λ r. ⌜ (r ≡ x) × (r < 256) ⌝ }
+{
+    x as u64
+}
+
+// Whether the last four bytes are the mark.
+fn marked(file: &[u8], mark: [u8; 4]) -> bool
+    requires { ⌜ 4 ≤ length (now file) ⌝ }
+    ensures { λ r. ⌜ r ≡ sameNumbers (markIn (now (file .entry))) mark ⌝ }
+{
+    let at = file.len() - 4;
+    if file[at] != mark[0] {
+        return false;
+    }
+    if file[at + 1] != mark[1] {
+        return false;
+    }
+    if file[at + 2] != mark[2] {
+        return false;
+    }
+    file[at + 3] == mark[3]
+}
+
+// The fields of the last 12 bytes, numbers low byte first.
+fn fields(file: &[u8]) -> Trailer
+    requires { ⌜ 12 ≤ length (now file) ⌝ }
+    ensures { λ t. ⌜ (t .refusal ≡ 0) × FieldsRead (now (file .entry)) (t .d) (t .row) (t .l) (t .distance) ⌝ }
+{
+    let at = file.len() - 12;
+    let low = wide(file[at + 4]) + 256 * wide(file[at + 5]);
+    let high = 65536 * wide(file[at + 6]) + 16777216 * wide(file[at + 7]);
+    Trailer {
+        refusal: OK,
+        d: wide(file[at]),
+        row: wide(file[at + 1]),
+        l: wide(file[at + 2]) + 256 * wide(file[at + 3]),
+        distance: low + high,
+    }
+}
+
+// Reads a trailer of `size` bytes that must end with `mark`: 9 for a file that is shorter or ends otherwise, else its fields.
+pub fn read_trailer(file: &[u8], size: usize, mark: [u8; 4]) -> Trailer
+    requires { ⌜ 12 ≤ size ⌝ }
+    ensures { λ t. ⌜ TrailerRead (now (file .entry)) size mark t ⌝ }
+{
+    let none = Trailer {
+        refusal: TRAILER,
+        d: 0,
+        row: 0,
+        l: 0,
+        distance: 0,
+    };
+    if file.len() < size {
+        return none;
+    }
+    if !marked(file, mark) {
+        return none;
+    }
+    fields(file)
+}
+
+// The trailer of a plan file.
+pub fn trailer_of(d: u8, row: u8, l: usize, distance: usize) -> [u8; 12]
+    ensures { λ r. ⌜ r ≡ d ∷ row ∷ twoBytes l ++ fourBytes distance ++ mark ⌝ }
+{
+    [
+        d,
+        row,
+        (l % 256) as u8,
+        (l / 256 % 256) as u8,
+        (distance % 256) as u8,
+        (distance / 256 % 256) as u8,
+        (distance / 65536 % 256) as u8,
+        (distance / 65536 / 256 % 256) as u8,
+        MARK[0],
+        MARK[1],
+        MARK[2],
+        MARK[3],
+    ]
+}

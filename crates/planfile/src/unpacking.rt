@@ -1,0 +1,49 @@
+// The public calls `unpack` and `body`: what a plan file says, and the part of it that is its body.
+use crate::judge::judge;
+use crate::trailer::TRAILER_SIZE;
+use refuse::OK;
+ghost use Rattle.planfile.specs.Promise.{UnpackPromise, BodyPromise};
+
+// What unpack answers: the refusal, and d, l and the answer row, 0 where it refuses.
+pub struct Unpacked {
+    pub refusal: u64,
+    pub d: u64,
+    pub l: u64,
+    pub row: u64,
+}
+
+// The numbers of a plan file, of any bytes at all.
+pub fn unpack(file: &[u8]) -> Unpacked
+    ensures { λ r. ⌜ UnpackPromise (now (file .entry)) r ⌝ }
+{
+    let t = judge(file);
+    let refusal = t.refusal;
+    if refusal != OK {
+        return Unpacked {
+            refusal,
+            d: 0,
+            l: 0,
+            row: 0,
+        };
+    }
+    Unpacked {
+        refusal,
+        d: t.d,
+        l: t.l,
+        row: t.row,
+    }
+}
+
+// The body of a plan file, start order and then bits: a part of the caller's own bytes. Where unpack refuses, the empty part at their
+// start.
+pub fn body(file: &[u8]) -> &[u8]
+    ensures { λ part. ⌜ BodyPromise (now (file .entry)) (file .entry .ptr) (now part) (part .ptr) ⌝ }
+{
+    let t = judge(file);
+    if t.refusal != OK {
+        return &file[..0];
+    }
+    let to = file.len() - TRAILER_SIZE;
+    let from = to - t.distance as usize;
+    &file[from..to]
+}
