@@ -27,6 +27,11 @@ impl Number {
         self.plus(&Number(vec![1]))
     }
 
+    /// Its words, none for 0.
+    pub fn words(&self) -> &[u64] {
+        &self.0
+    }
+
     pub fn word(&self, i: usize) -> u64 {
         self.0.get(i).copied().unwrap_or(0)
     }

@@ -95,8 +95,34 @@ pub fn scalars(d: u64, l: u64, words: &[u64]) -> Vec<Number> {
         .collect()
 }
 
-/// The refusal and the answer row; writes start order and bits.
-pub fn encode(d: u64, l: u64, words: &[u64], start: &mut [u8], bits: &mut [u8]) -> (u64, u64) {
+/// The order of the last matrix: columns with odd scalars rising, then those with even ones rising.
+fn end_order(scalars: &[Number]) -> Vec<usize> {
+    let columns = 0..scalars.len();
+    let odd = columns.clone().filter(|&j| scalars[j].is_odd());
+    odd.chain(columns.filter(|&j| !scalars[j].is_odd()))
+        .collect()
+}
+
+/// The bits of step s (from 1) in the running order: bit s of a scalar XOR its bit s-1, counted from the top of l bits, bit 0 being 0.
+fn deal(scalars: &[Number], l: usize, s: usize, order: &[usize]) -> Vec<bool> {
+    let top = |j: usize, s: usize| s > 0 && scalars[j].bit(l - s);
+    order.iter().map(|&j| top(j, s) ^ top(j, s - 1)).collect()
+}
+
+/// The order before a step: the columns with bit 1 in reverse, then those with bit 0.
+fn order_before(order: &[usize], dealt: &[bool]) -> Vec<usize> {
+    let with = |bit: bool| {
+        let kept = order.iter().zip(dealt).filter(move |&(_, &b)| b == bit);
+        kept.map(|(&j, _)| j)
+    };
+    let mut before: Vec<usize> = with(true).collect();
+    before.reverse();
+    before.extend(with(false));
+    before
+}
+
+/// The first refusal of encode: 1, 2, 3, 4.
+fn encode_refusal(d: u64, l: u64, words: &[u64], start: &[u8], bits: &[u8]) -> u64 {
     let early = refuse::first(&[
         refuse::dimension(d),
         refuse::length(l),
@@ -105,46 +131,33 @@ pub fn encode(d: u64, l: u64, words: &[u64], start: &mut [u8], bits: &mut [u8]) 
         refuse::shape(bits.len(), refuse::bits_bytes(d, l)),
     ]);
     if early != refuse::OK {
-        return (early, 0);
+        return early;
+    }
+    refuse::scalar(l, &scalars(d, l, words))
+}
+
+/// The refusal and the answer row; writes start order and bits.
+pub fn encode(d: u64, l: u64, words: &[u64], start: &mut [u8], bits: &mut [u8]) -> (u64, u64) {
+    let refusal = encode_refusal(d, l, words, start, bits);
+    if refusal != refuse::OK {
+        return (refusal, 0);
     }
     let scalars = scalars(d, l, words);
-    let late = refuse::scalar(l, &scalars);
-    if late != refuse::OK {
-        return (late, 0);
-    }
-    // Bit s of a scalar, counted from the top of l bits, bit 0 being 0.
-    let top = |j: usize, s: usize| s > 0 && scalars[j].bit(l as usize - s);
-    let columns = 0..d as usize;
-    let odd = columns.clone().filter(|&j| scalars[j].is_odd());
-    let mut order: Vec<usize> = odd
-        .chain(columns.filter(|&j| !scalars[j].is_odd()))
-        .collect();
+    let mut order = end_order(&scalars);
     bits.fill(0);
     for s in (1..=l as usize).rev() {
-        let dealt: Vec<bool> = order.iter().map(|&j| top(j, s) ^ top(j, s - 1)).collect();
+        let dealt = deal(&scalars, l as usize, s, &order);
         for (k, _) in dealt.iter().enumerate().filter(|&(_, &b)| b) {
             let n = (s - 1) * d as usize + k;
             bits[n / 8] |= 1 << (7 - n % 8);
         }
-        let with = |bit: bool| {
-            order
-                .iter()
-                .zip(&dealt)
-                .filter(move |&(_, &b)| b == bit)
-                .map(|(&j, _)| j)
-        };
-        let mut before: Vec<usize> = with(true).collect();
-        before.reverse();
-        before.extend(with(false));
-        order = before;
+        order = order_before(&order, &dealt);
     }
     for (place, &j) in start.iter_mut().zip(&order) {
         *place = j as u8 + 1;
     }
-    (
-        refuse::OK,
-        1 + scalars.iter().filter(|k| k.is_odd()).count() as u64,
-    )
+    let odd = scalars.iter().filter(|k| k.is_odd()).count() as u64;
+    (refuse::OK, 1 + odd)
 }
 
 pub fn decode(plan: &Plan, values: &mut [u64]) -> u64 {

@@ -20,32 +20,39 @@ fn plain(plan: &Plan, modulus: u128, elements: &[u64]) -> Vec<u128> {
     plan.last_matrix().iter().map(combination).collect()
 }
 
-/// The difference run: a new register is twice register x, and for an addition the elements' combination by the difference vector of
-/// the matrix before the step.
-fn by_differences(plan: &Plan, modulus: u128, elements: &[u64]) -> Vec<u128> {
-    let mut matrix = plan.start_matrix();
+/// Twice register x, and the elements' combination by row y minus row x.
+fn by_difference(register: u128, x: &Row, y: &Row, modulus: u128, elements: &[u64]) -> u128 {
+    let twice = register * 2 % modulus;
+    let rows = x.iter().zip(y);
+    rows.zip(elements)
+        .fold(twice, |sum, ((a, b), &e)| match difference(a, b) {
+            0 => sum,
+            1 => (sum + u128::from(e)) % modulus,
+            _ => (sum + modulus - u128::from(e)) % modulus,
+        })
+}
+
+/// The registers of the start matrix: 0, then one element more with each place of the start order.
+fn start_registers(plan: &Plan, modulus: u128, elements: &[u64]) -> Vec<u128> {
     let mut registers = vec![0];
     for &column in plan.start {
         let last = registers[registers.len() - 1];
         registers.push((last + u128::from(elements[usize::from(column) - 1])) % modulus);
     }
+    registers
+}
+
+/// The difference run: a new register is twice register x, and for an addition the elements' combination by the difference vector of
+/// the matrix before the step.
+fn by_differences(plan: &Plan, modulus: u128, elements: &[u64]) -> Vec<u128> {
+    let mut matrix = plan.start_matrix();
+    let mut registers = start_registers(plan, modulus, elements);
     for s in 0..plan.l as usize {
         let bits = plan.step_bits(s);
-        registers = operations(&bits)
+        let made = operations(&bits)
             .into_iter()
-            .map(|(x, y)| {
-                let twice = registers[x] * 2 % modulus;
-                let rows = matrix[x].iter().zip(&matrix[y]);
-                rows.zip(elements).fold(twice, |sum, ((a, b), &e)| {
-                    let e = u128::from(e);
-                    match difference(a, b) {
-                        0 => sum,
-                        1 => (sum + e) % modulus,
-                        _ => (sum + modulus - e) % modulus,
-                    }
-                })
-            })
-            .collect();
+            .map(|(x, y)| by_difference(registers[x], &matrix[x], &matrix[y], modulus, elements));
+        registers = made.collect();
         matrix = step(&matrix, &bits);
     }
     registers
