@@ -2,7 +2,7 @@
 //! as the rules say; orders and signs are stepped only where the rules ask for that, in a paused walk.
 //!
 //! `model answer` reads requests and writes the line that each must give; `model make SEED COUNT` writes requests. For the guide, `model
-//! steps FILE`, `model entries FILE` and `model drawing FILE` show the plan of a plan file, given in hexadecimal, and `model dealing L K..`
+//! fields FILE`, `model steps FILE`, `model entries FILE` and `model drawing FILE` show the plan of a plan file, given in hexadecimal, and `model dealing L K..`
 //! how the bits of scalars are dealt.
 mod file;
 mod make;
@@ -34,11 +34,18 @@ fn make(seed: u64, count: u64) {
     }
 }
 
+/// The bytes that hexadecimal digits stand for.
+fn bytes(digits: &str) -> Vec<u8> {
+    let byte = |i: usize| u8::from_str_radix(&digits[i..i + 2], 16).expect("two digits");
+    (0..digits.len()).step_by(2).map(byte).collect()
+}
+
 /// What shows a plan, of the plan file in hexadecimal digits.
 fn show(how: fn(&Plan) -> String, digits: &str) {
-    let byte = |i: usize| u8::from_str_radix(&digits[i..i + 2], 16).expect("two digits");
-    let file: Vec<u8> = (0..digits.len()).step_by(2).map(byte).collect();
-    print!("{}", how(&file::unpack(&file).expect("a plan file")));
+    print!(
+        "{}",
+        how(&file::unpack(&bytes(digits)).expect("a plan file"))
+    );
 }
 
 fn main() {
@@ -51,6 +58,7 @@ fn main() {
             (Some(seed), Some(count)) => make(seed, count),
             _ => usage(),
         },
+        ["fields", file] => print!("{}", show::fields(&bytes(file))),
         ["steps", file] => show(show::steps, file),
         ["entries", file] => show(show::entries, file),
         ["drawing", file] => show(show::drawing, file),
@@ -66,6 +74,6 @@ fn main() {
 }
 
 fn usage() {
-    eprintln!("usage: model answer <REQUESTS | make SEED COUNT | steps FILE | entries FILE | drawing FILE | dealing L K..");
+    eprintln!("usage: model answer <REQUESTS | make SEED COUNT | fields FILE | steps FILE | entries FILE | drawing FILE | dealing L K..");
     std::process::exit(2);
 }

@@ -1,6 +1,7 @@
 //! A plan step by step, for the guide: matrices, how bits are dealt, the entries of a trace, and a drawing of them.
+use crate::file;
 use crate::number::Number;
-use crate::plan::{operations, step, Matrix, Plan};
+use crate::plan::{self, operations, step, Matrix, Plan};
 use crate::refusal as refuse;
 use crate::trace;
 use std::fmt::Write;
@@ -74,8 +75,34 @@ pub fn steps(plan: &Plan) -> String {
     text
 }
 
-/// How the bits of each step come about, from the last step to the first.
+/// The fields of a plan file, byte by byte.
+pub fn fields(file: &[u8]) -> String {
+    let at = file.len() - 12;
+    let d = usize::from(file[at]);
+    let from = at - file::body(file).len();
+    let hexadecimal = |s: &[u8]| {
+        let bytes: Vec<String> = s.iter().map(|b| format!("{b:02X}")).collect();
+        bytes.join(" ")
+    };
+    let parts = [
+        ("start order", &file[from..from + d]),
+        ("bits", &file[from + d..at]),
+        ("d", &file[at..at + 1]),
+        ("answer row", &file[at + 1..at + 2]),
+        ("l", &file[at + 2..at + 4]),
+        ("back distance", &file[at + 4..at + 8]),
+        ("mark", &file[at + 8..]),
+    ];
+    let lines = parts.map(|(name, part)| format!("{name:<13}  {}\n", hexadecimal(part)));
+    lines.concat()
+}
+
+/// How the bits of each step come about, from the last step to the first. They are those of the plan that encoding gives.
 pub fn dealing(l: usize, scalars: &[u64]) -> String {
+    let d = scalars.len();
+    let (mut start, mut packed) = (vec![0; d], vec![0; (l * d).div_ceil(8)]);
+    let refusal = plan::encode(d as u64, l as u64, scalars, &mut start, &mut packed).0;
+    assert_eq!(refusal, refuse::OK, "scalars of at most 64 bits");
     let bit = |j: usize, s: usize| s > 0 && scalars[j] >> (l - s) & 1 == 1;
     let columns = 1..=scalars.len();
     let odd = columns.clone().filter(|&c| scalars[c - 1] % 2 == 1);
@@ -123,6 +150,16 @@ pub fn dealing(l: usize, scalars: &[u64]) -> String {
         order = before;
     }
     all.reverse();
+    let plan = Plan {
+        d: d as u64,
+        l: l as u64,
+        start: &start,
+        bits: &packed,
+        row: 1,
+    };
+    for (s, bits) in all.iter().enumerate() {
+        assert_eq!(*bits, bits_text(&plan.step_bits(s)), "the encoded plan");
+    }
     let gap = if scalars.len() == 1 { "" } else { " " };
     writeln!(
         text,
@@ -155,7 +192,7 @@ pub fn entries(plan: &Plan) -> String {
     text
 }
 
-/// What stands at the centre of an operation's circle in the drawing.
+/// The centre of a register's circle in the drawing.
 fn place(step: usize, row: usize) -> (usize, usize) {
     (60 + 110 * step, 50 + 70 * row)
 }

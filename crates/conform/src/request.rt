@@ -1,7 +1,7 @@
 // A request is a run of numbers: its call, d, l, the row, how much is lent of start, bits, words and output, and then what the lent start,
 // bits and words hold. A step has its number for l, its order for start and its signs for bits. A run has its modulus before the words,
 // which are its elements, and its registers for output. A file is the bits of a request that takes one. No more is lent than the arrays
-// below hold, which is somewhat more than any call accepts.
+// below hold, which is somewhat more than the calls but unpack and body accept.
 use crate::calls;
 use crate::files;
 use crate::numbers;
