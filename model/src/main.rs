@@ -2,8 +2,10 @@
 //! as the rules say; orders and signs are stepped only where the rules ask for that, in a paused walk.
 //!
 //! `model answer` reads requests and writes the line that each must give; `model make SEED COUNT` writes requests. For the guide, `model
-//! fields FILE`, `model steps FILE`, `model entries FILE` and `model drawing FILE` show the plan of a plan file, given in hexadecimal, and `model dealing L K..`
-//! how the bits of scalars are dealt.
+//! fields FILE`, `model steps FILE`, `model entries FILE` and `model drawing FILE` show the plan of a plan file, given in hexadecimal,
+//! `model dealing L K..` how the bits of scalars are dealt, `model blocks` how the guide's blocks begin, and `model claims` its sentences that have
+//! numbers in them.
+mod claims;
 mod file;
 mod make;
 mod number;
@@ -24,7 +26,7 @@ fn answer() {
     std::io::stdin()
         .read_to_string(&mut text)
         .expect("standard input is text");
-    print!("{}", requests::answers(&requests::read(&text)));
+    print!("{}", requests::answers(&text));
 }
 
 fn make(seed: u64, count: u64) {
@@ -62,6 +64,8 @@ fn main() {
         ["steps", file] => show(show::steps, file),
         ["entries", file] => show(show::entries, file),
         ["drawing", file] => show(show::drawing, file),
+        ["blocks"] => println!("{}", claims::blocks().join("\n")),
+        ["claims"] => println!("{}", claims::claims().join("\n")),
         ["dealing", l, ..] => {
             let numbers: Option<Vec<u64>> = words[2..].iter().map(|k| number(k)).collect();
             match (number(l), numbers) {
@@ -74,6 +78,6 @@ fn main() {
 }
 
 fn usage() {
-    eprintln!("usage: model answer <REQUESTS | make SEED COUNT | fields FILE | steps FILE | entries FILE | drawing FILE | dealing L K..");
+    eprintln!("usage: model answer <REQUESTS | make SEED COUNT | fields FILE | steps FILE | entries FILE | drawing FILE | dealing L K.. | blocks | claims");
     std::process::exit(2);
 }

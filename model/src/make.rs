@@ -121,6 +121,7 @@ fn with_file(random: &mut Random, request: &mut Request) {
     let at = packed.len() - 13;
     packed[at] = *request.bits.last().expect("a byte");
     let preface = match random.below(8) {
+        0 if random.once_in(32) => 65536 - packed.len(),
         0 => 4096 - packed.len(),
         1..=3 => random.below(40) as usize,
         _ => 0,
@@ -305,8 +306,22 @@ fn spoil_file(random: &mut Random, file: &mut Vec<u8>) {
     }
 }
 
+/// More than the program holds, by one or by more than it reads at a time.
+fn lend_too_much(random: &mut Random, request: &mut Request) {
+    let more = random.one_of(&[0, 0, 0, 0, 70000]);
+    match random.below(4) {
+        0 => request.start.resize(65 + more, 1),
+        1 => request.bits.resize(65537 + more, 255),
+        2 => request.words.resize(129 + more, u64::MAX >> more.min(60)),
+        _ => request.out = 51905,
+    }
+}
+
 /// One fault more. It can be none: then the request is as sound as before.
 fn spoil(random: &mut Random, request: &mut Request) {
+    if random.once_in(64) {
+        return lend_too_much(random, request);
+    }
     match request.call {
         STEP => return spoil_walk(random, request),
         UNPACK | BODY => return spoil_file(random, &mut request.bits),

@@ -50,7 +50,7 @@ impl Number {
         (l..self.0.len() * 64).all(|i| !self.bit(i))
     }
 
-    /// The rest by a modulus, word by word from the top.
+    /// The rest by a modulus, bit by bit from the top.
     pub fn rest(&self, modulus: u128) -> u128 {
         self.0.iter().rev().fold(0, |rest, &word| {
             (0..64).rev().fold(rest, |rest, i| {

@@ -76,7 +76,7 @@ pub fn operations(bits: &[bool]) -> Vec<(usize, usize)> {
     rows
 }
 
-fn sum(a: &Row, b: &Row) -> Row {
+pub fn sum(a: &Row, b: &Row) -> Row {
     a.iter().zip(b).map(|(a, b)| a.plus(b)).collect()
 }
 
@@ -96,7 +96,7 @@ pub fn scalars(d: u64, l: u64, words: &[u64]) -> Vec<Number> {
 }
 
 /// The order of the last matrix: columns with odd scalars rising, then those with even ones rising.
-fn end_order(scalars: &[Number]) -> Vec<usize> {
+pub fn end_order(scalars: &[Number]) -> Vec<usize> {
     let columns = 0..scalars.len();
     let odd = columns.clone().filter(|&j| scalars[j].is_odd());
     odd.chain(columns.filter(|&j| !scalars[j].is_odd()))
@@ -104,13 +104,13 @@ fn end_order(scalars: &[Number]) -> Vec<usize> {
 }
 
 /// The bits of step s (from 1) in the running order: bit s of a scalar XOR its bit s-1, counted from the top of l bits, bit 0 being 0.
-fn deal(scalars: &[Number], l: usize, s: usize, order: &[usize]) -> Vec<bool> {
+pub fn deal(scalars: &[Number], l: usize, s: usize, order: &[usize]) -> Vec<bool> {
     let top = |j: usize, s: usize| s > 0 && scalars[j].bit(l - s);
     order.iter().map(|&j| top(j, s) ^ top(j, s - 1)).collect()
 }
 
 /// The order before a step: the columns with bit 1 in reverse, then those with bit 0.
-fn order_before(order: &[usize], dealt: &[bool]) -> Vec<usize> {
+pub fn order_before(order: &[usize], dealt: &[bool]) -> Vec<usize> {
     let with = |bit: bool| {
         let kept = order.iter().zip(dealt).filter(move |&(_, &b)| b == bit);
         kept.map(|(&j, _)| j)

@@ -4,10 +4,12 @@ use crate::plan::{self, Plan};
 use crate::run;
 use crate::trace;
 use crate::walk::Walk;
-use std::fmt::Write;
 
 /// More bytes than these are told by their count and two sums.
 const LONG: usize = 1000;
+
+/// How far the second sum spreads each byte over those before it.
+const SPREAD: u64 = (1 << 40) + (1 << 21) + (1 << 7) + 1;
 
 /// What a lent output holds when it is lent.
 const LENT: u8 = 170;
@@ -39,11 +41,40 @@ pub struct Request {
     pub out: usize,
 }
 
+/// How much a request lends of each.
+struct Lent {
+    start: u64,
+    bits: u64,
+    words: u64,
+    out: u64,
+}
+
+impl Lent {
+    /// Whether it is more than the program holds.
+    fn too_much(&self, call: u64) -> bool {
+        let most = match call {
+            TRACE => 51904,
+            PLAIN | DIFFERENCE => 80,
+            PACK => 640,
+            LISTING => 8600,
+            _ => u64::MAX,
+        };
+        self.start > 64 || self.bits > 65536 || self.words > 128 || self.out > most
+    }
+
+    fn line(&self) -> String {
+        format!(
+            "more is lent than conform holds: start {} bits {} words {} output {}\n",
+            self.start, self.bits, self.words, self.out
+        )
+    }
+}
+
 fn bytes(label: &str, s: &[u8]) -> String {
     if s.len() > LONG {
         let (plain, spread) = s.iter().fold((0u64, 0u64), |(plain, spread), &b| {
             let b = u64::from(b);
-            (plain + b, spread.wrapping_mul(33).wrapping_add(b))
+            (plain + b, spread.wrapping_mul(SPREAD).wrapping_add(b))
         });
         return format!("{label} {} bytes of sums {plain} {spread}", s.len());
     }
@@ -269,51 +300,82 @@ impl Request {
     }
 }
 
-/// Every run of digits in the text.
-fn numbers(text: &str) -> Vec<u64> {
-    text.split(|c: char| !c.is_ascii_digit())
-        .filter(|n| !n.is_empty())
-        .map(|n| n.parse().expect("a word"))
-        .collect()
+/// The numbers of a text: every run of digits in it, 2^64 - 1 for one that is above that. Past the last they are 0, and the text has ended.
+struct Numbers<'a> {
+    left: Box<dyn Iterator<Item = u64> + 'a>,
+    ended: bool,
 }
 
-/// The requests of a text; its first number says how many there are.
-pub fn read(text: &str) -> Vec<Request> {
-    let mut left = numbers(text).into_iter();
-    let mut next = move || left.next().expect("as many numbers as the requests have");
-    (0..next())
-        .map(|_| {
-            let call = next();
-            let (d, l, row) = (next(), next(), next());
-            let (starts, bits, words, out) = (next(), next(), next(), next());
-            let start = (0..starts).map(|_| next() as u8).collect();
-            let bits = (0..bits).map(|_| next() as u8).collect();
-            let m = if Request::has_modulus(call) {
-                next()
-            } else {
-                0
-            };
-            let words = (0..words).map(|_| next()).collect();
-            Request {
-                call,
-                d,
-                l,
-                row,
-                start,
-                bits,
-                m,
-                words,
-                out: out as usize,
-            }
-        })
-        .collect()
+impl Numbers<'_> {
+    fn of(text: &str) -> Numbers<'_> {
+        let runs = text.split(|c: char| !c.is_ascii_digit());
+        let numbers = runs
+            .filter(|n| !n.is_empty())
+            .map(|n| n.parse().unwrap_or(u64::MAX));
+        Numbers {
+            left: Box::new(numbers),
+            ended: false,
+        }
+    }
+
+    fn next(&mut self) -> u64 {
+        let number = self.left.next();
+        self.ended |= number.is_none();
+        number.unwrap_or(0)
+    }
+
+    /// The next so many, or as many as there are.
+    fn some(&mut self, count: u64) -> Vec<u64> {
+        let mut numbers = Vec::new();
+        while (numbers.len() as u64) < count && !self.ended {
+            numbers.push(self.next());
+        }
+        numbers
+    }
+
+    /// The next request, and how much it lends.
+    fn request(&mut self) -> (Request, Lent) {
+        let call = self.next();
+        let (d, l, row) = (self.next(), self.next(), self.next());
+        let lent = Lent {
+            start: self.next(),
+            bits: self.next(),
+            words: self.next(),
+            out: self.next(),
+        };
+        let bytes = |numbers: Vec<u64>| numbers.into_iter().map(|n| n as u8).collect();
+        let request = Request {
+            call,
+            d,
+            l,
+            row,
+            start: bytes(self.some(lent.start)),
+            bits: bytes(self.some(lent.bits)),
+            m: self
+                .some(u64::from(Request::has_modulus(call)))
+                .first()
+                .map_or(0, |&m| m),
+            words: self.some(lent.words),
+            out: lent.out as usize,
+        };
+        (request, lent)
+    }
 }
 
-/// The line of each request.
-pub fn answers(requests: &[Request]) -> String {
+/// The line of each request of a text, whose first number says how many there are; the last line says so where the text ends within one.
+pub fn answers(text: &str) -> String {
+    let mut numbers = Numbers::of(text);
     let mut lines = String::new();
-    for request in requests {
-        writeln!(lines, "{}", request.line()).expect("a string");
+    for _ in 0..numbers.next() {
+        let (request, lent) = numbers.request();
+        if lent.too_much(request.call) {
+            lines += &lent.line();
+        } else if !numbers.ended {
+            lines += &(request.line() + "\n");
+        }
+        if numbers.ended {
+            return lines + "the input ends within a request\n";
+        }
     }
     lines
 }

@@ -6,13 +6,13 @@ use crate::refusal as refuse;
 use crate::trace;
 use std::fmt::Write;
 
-fn row_text(row: &[Number]) -> String {
+pub fn row_text(row: &[Number]) -> String {
     let entries: Vec<String> = row.iter().map(|n| n.word(0).to_string()).collect();
     format!("({})", entries.join(","))
 }
 
 /// The columns in which neighbouring rows differ, top to bottom.
-fn order(matrix: &Matrix) -> Vec<usize> {
+pub fn order(matrix: &Matrix) -> Vec<usize> {
     matrix
         .windows(2)
         .map(|rows| {
@@ -23,7 +23,7 @@ fn order(matrix: &Matrix) -> Vec<usize> {
 }
 
 /// The sign of each column: + where its odd entry is one above its even one.
-fn signs(matrix: &Matrix) -> String {
+pub fn signs(matrix: &Matrix) -> String {
     let last = &matrix[matrix.len() - 1];
     (0..last.len())
         .map(|j| {
@@ -36,12 +36,12 @@ fn signs(matrix: &Matrix) -> String {
         .collect()
 }
 
-fn joined<T: ToString>(items: &[T]) -> String {
+pub fn joined<T: ToString>(items: &[T]) -> String {
     let words: Vec<String> = items.iter().map(T::to_string).collect();
     words.join(" ")
 }
 
-fn bits_text(bits: &[bool]) -> String {
+pub fn bits_text(bits: &[bool]) -> String {
     bits.iter().map(|&b| if b { '1' } else { '0' }).collect()
 }
 
@@ -97,78 +97,61 @@ pub fn fields(file: &[u8]) -> String {
     lines.concat()
 }
 
-/// How the bits of each step come about, from the last step to the first. They are those of the plan that encoding gives.
-pub fn dealing(l: usize, scalars: &[u64]) -> String {
-    let d = scalars.len();
-    let (mut start, mut packed) = (vec![0; d], vec![0; (l * d).div_ceil(8)]);
-    let refusal = plan::encode(d as u64, l as u64, scalars, &mut start, &mut packed).0;
-    assert_eq!(refusal, refuse::OK, "scalars of at most 64 bits");
-    let bit = |j: usize, s: usize| s > 0 && scalars[j] >> (l - s) & 1 == 1;
-    let columns = 1..=scalars.len();
-    let odd = columns.clone().filter(|&c| scalars[c - 1] % 2 == 1);
-    let mut order: Vec<usize> = odd
-        .chain(columns.filter(|&c| scalars[c - 1] % 2 == 0))
+/// The bits of a scalar that meet at step s: its bit s from the top, of l, and the one before it.
+fn meeting(scalar: u64, l: usize, s: usize) -> (bool, bool) {
+    let top = |s: usize| s > 0 && scalar >> (l - s) & 1 == 1;
+    (top(s), top(s - 1))
+}
+
+/// The line of a scalar: its column, its value, its bits.
+fn scalar_line(column: usize, scalar: u64, l: usize) -> String {
+    let bits: Vec<bool> = (1..=l).map(|s| meeting(scalar, l, s).0).collect();
+    let bits = bits_text(&bits);
+    format!("column {column}  scalar {scalar}  bits {bits}\n")
+}
+
+/// The columns of an order, counted from 1.
+fn counted(order: &[usize]) -> String {
+    let columns: Vec<usize> = order.iter().map(|j| j + 1).collect();
+    joined(&columns)
+}
+
+/// The line of a step: what meets in each column, the order after the step, the bits in that order, and the order before.
+fn step_line(scalars: &[u64], l: usize, s: usize, orders: [&[usize]; 2], dealt: &[bool]) -> String {
+    let meets = scalars.iter().map(|&scalar| meeting(scalar, l, s));
+    let columns: Vec<String> = meets
+        .map(|(own, before)| format!("{}^{}", u8::from(own), u8::from(before)))
         .collect();
-    let mut text = String::new();
-    for (j, scalar) in scalars.iter().enumerate() {
-        let bits: Vec<bool> = (1..=l).map(|s| bit(j, s)).collect();
-        writeln!(
-            text,
-            "column {}  scalar {scalar}  bits {}",
-            j + 1,
-            bits_text(&bits)
-        )
-        .expect("a string");
-    }
-    writeln!(text, "end order {}", joined(&order)).expect("a string");
-    let mut all = Vec::new();
+    let [order, before] = orders.map(counted);
+    let columns = columns.join(" ");
+    let dealt = bits_text(dealt);
+    format!("step {s}  columns {columns}  order {order}  dealt {dealt}  order before {before}\n")
+}
+
+/// How the bits of each step come about, from the last step to the first.
+pub fn dealing(l: usize, scalars: &[u64]) -> String {
+    let numbers: Vec<Number> = scalars.iter().map(|&k| Number::from_words(&[k])).collect();
+    assert_eq!(
+        refuse::scalar(l as u64, &numbers),
+        refuse::OK,
+        "scalars below 2^l"
+    );
+    let mut text: String = (scalars.iter().enumerate())
+        .map(|(j, &scalar)| scalar_line(j + 1, scalar, l))
+        .collect();
+    let mut order = plan::end_order(&numbers);
+    text += &format!("end order {}\n", counted(&order));
+    let mut bits = Vec::new();
     for s in (1..=l).rev() {
-        let dealt: Vec<bool> = order
-            .iter()
-            .map(|&c| bit(c - 1, s) ^ bit(c - 1, s - 1))
-            .collect();
-        let own: Vec<String> = (0..scalars.len())
-            .map(|j| format!("{}^{}", u8::from(bit(j, s)), u8::from(bit(j, s - 1))))
-            .collect();
-        let with = |wanted: bool| {
-            let kept = order.iter().zip(&dealt).filter(move |&(_, &b)| b == wanted);
-            kept.map(|(&c, _)| c).collect::<Vec<usize>>()
-        };
-        let mut before = with(true);
-        before.reverse();
-        before.extend(with(false));
-        writeln!(
-            text,
-            "step {s}  columns {}  order {}  dealt {}  order before {}",
-            own.join(" "),
-            joined(&order),
-            bits_text(&dealt),
-            joined(&before)
-        )
-        .expect("a string");
-        all.push(bits_text(&dealt));
+        let dealt = plan::deal(&numbers, l, s, &order);
+        let before = plan::order_before(&order, &dealt);
+        text += &step_line(scalars, l, s, [&order, &before], &dealt);
+        bits.insert(0, bits_text(&dealt));
         order = before;
     }
-    all.reverse();
-    let plan = Plan {
-        d: d as u64,
-        l: l as u64,
-        start: &start,
-        bits: &packed,
-        row: 1,
-    };
-    for (s, bits) in all.iter().enumerate() {
-        assert_eq!(*bits, bits_text(&plan.step_bits(s)), "the encoded plan");
-    }
     let gap = if scalars.len() == 1 { "" } else { " " };
-    writeln!(
-        text,
-        "start order {}  plan's bits {}",
-        joined(&order),
-        all.join(gap)
-    )
-    .expect("a string");
-    text
+    let (start, bits) = (counted(&order), bits.join(gap));
+    text + &format!("start order {start}  plan's bits {bits}\n")
 }
 
 /// Every entry of the trace, a line for each step.

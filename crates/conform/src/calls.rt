@@ -1,9 +1,9 @@
 // One line per call: what was lent, and after the colon what the call answered and what the lent output then holds.
-use crate::part;
 use crate::request::Head;
-use crate::show;
 use plan::Encoded;
-use plan::TraceAnswer;
+use plan::Traced;
+use wire::part;
+use wire::show;
 
 // The plan that is lent.
 pub fn plan_of(h: Head, label: &[u8], start: &[u8], bits: &[u8], line: &mut [u8]) -> usize {
@@ -54,7 +54,7 @@ pub fn check(h: Head, start: &[u8], bits: &[u8], scalars: &[u64], line: &mut [u8
     show::text(line, refused, b" no")
 }
 
-fn traced(r: TraceAnswer, out: &[u8], line: &mut [u8], at: usize) -> usize {
+fn traced(r: Traced, out: &[u8], line: &mut [u8], at: usize) -> usize {
     let refused = show::refusal(line, at, r.refusal);
     let doubled = show::number(line, refused, b" doublings ", r.doublings);
     let added = show::number(line, doubled, b" additions ", r.additions);

@@ -1,9 +1,9 @@
 // One line per call on plan files.
 use crate::calls::plan_of;
-use crate::part;
 use crate::request::Head;
-use crate::show;
 use plan::Listed;
+use wire::part;
+use wire::show;
 
 pub fn pack(h: Head, start: &[u8], bits: &[u8], line: &mut [u8]) -> usize {
     let asked = plan_of(h, b"pack ", start, bits, line);

@@ -3,15 +3,14 @@
 // (../../../model), never what this program wrote.
 mod calls;
 mod files;
-mod numbers;
-mod part;
+mod limit;
 mod request;
 mod runs;
-mod show;
 mod step;
-mod stream;
 
 use libc::STDIN_FILENO;
+use wire::numbers;
+use wire::stream;
 
 fn main() {
     let mut text = io::large_buffer();
@@ -22,7 +21,11 @@ fn main() {
     let mut i = 0u64;
     while i < count {
         let from = stream::refill(&mut text, at);
-        at = request::answer(&text, from);
+        at = request::answer(&mut text, from);
+        if at == text.len() {
+            request::cut();
+            return;
+        }
         i += 1;
     }
 }

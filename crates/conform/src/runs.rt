@@ -1,9 +1,9 @@
 // One line per run: the plan, the modulus and the elements, and after the colon what the run answered and its registers.
 use crate::calls::plan_of;
-use crate::part;
 use crate::request::Head;
-use crate::show;
 use plan::Ran;
+use wire::part;
+use wire::show;
 
 fn run_of(
     h: Head,

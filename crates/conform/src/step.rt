@@ -1,7 +1,7 @@
 // One line per step of a paused walk, whose order and signs a request has for start and bits.
 use crate::request::Head;
-use crate::show;
 use plan::Walk;
+use wire::show;
 
 // A byte as a sign, two's complement ..
 fn sign(b: u8) -> i8 {

@@ -1,4 +1,5 @@
--- `conform::main` is safe and ends: the text keeps its length, and it counts up to the number of requests. Assumes nothing.
+-- `conform::main` is safe and ends: the text keeps its length, and it counts up to the number of requests.
+-- Assumes the toolchain's contracts of the C library's read and write.
 use borrow.Author.Needs.{needs}
 use native.Mathlib.Omega.{arith}
 use Prim.Native.Nat.{_≤_, _-_}
@@ -43,6 +44,12 @@ slice-aggregate-answer c = search needs
 answer-requires : tie.Need-answer-requires Inv-loop μ-loop
 answer-requires c κs = search needs
 
+cut-requires : tie.Need-cut-requires Inv-loop μ-loop
+cut-requires c κs = search needs
+
+returns : tie.Need-returns Inv-loop μ-loop
+returns c = search needs
+
 add-i : tie.Need-add-i Inv-loop μ-loop
 add-i c = omega arith
 
@@ -52,8 +59,8 @@ loop-less c = omega arith
 loop-again : tie.Need-loop-again Inv-loop μ-loop
 loop-again c = search needs
 
-returns : tie.Need-returns Inv-loop μ-loop
-returns c = search needs
+returns-2 : tie.Need-returns-2 Inv-loop μ-loop
+returns-2 c = search needs
 
 pub main-spec : {M : Type 1} → statement M
 main-spec =
@@ -71,7 +78,9 @@ main-spec =
     refill-requires
     slice-aggregate-answer
     answer-requires
+    cut-requires
+    returns
     add-i
     loop-less
     loop-again
-    returns)
+    returns-2)

@@ -1,4 +1,5 @@
--- `conform::step::byte` is safe: by the laws of a signed number and its byte. Assumes nothing.
+-- `conform::step::byte` is safe: by the laws of a signed number and its byte.
+-- Assumes nothing.
 use borrow.Author.Needs.{needs}
 use Rattle.walk.proofs.SignedByte.{wide-fits, up-fits, up-cast, low-cast}
 use Rattle.conform.proofs.step.byte.Statement.{statement}

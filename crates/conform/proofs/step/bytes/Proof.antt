@@ -1,4 +1,5 @@
--- `conform::step::bytes` is safe and ends: the place stays within both arrays, which keep their lengths, and what is left grows less. Assumes nothing.
+-- `conform::step::bytes` is safe and ends: the place stays within both arrays, which keep their lengths, and what is left grows less.
+-- Assumes nothing.
 use borrow.Author.Needs.{needs}
 use native.Mathlib.Omega.{arith}
 use Prim.Native.Nat.{_≤_, _-_}

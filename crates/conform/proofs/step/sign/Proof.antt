@@ -1,4 +1,5 @@
--- `conform::step::sign` is safe: a byte of 128 or more, less 256, is negative and fits in eight bits. Assumes nothing.
+-- `conform::step::sign` is safe: a byte of 128 or more, less 256, is negative and fits in eight bits.
+-- Assumes nothing.
 use Prim.Native.Nat.{ℕ, suc, _-_, _≤_, _<_}
 use mathlib.Core.Path.{_≡_, ap, _∙_}
 use mathlib.Core.Bool.{cond}
