@@ -1,6 +1,6 @@
 -- Columns counted above a row: each place passed adds one to its column's count.
 -- Assumes nothing.
-use Prim.Native.Nat.{ℕ, zero, suc, _+_, _-_, _≤_, _<_}
+use Prim.Native.Nat.{ℕ, suc, _+_, _-_, _≤_, _<_}
 use mathlib.Core.Path.{_≡_, refl, sym, ap, _∙_}
 use mathlib.Core.List.{List, [], _∷_}
 use native.Mathlib.Decide.{ℕ-discrete, decLe}
@@ -9,7 +9,7 @@ use native.Mathlib.Omega.{arith}
 use lib.ListN.{length, getD, set, replicate, take, length-set, length-take, List·getD-eq-default}
 use lib.Seq.{getD-set-same, getD-set-other, take-suc}
 use Rattle.ladder.specs.Lists.{count, same}
-use Rattle.ladder.proofs.Lists.{same-is, count-append}
+use Rattle.ladder.proofs.Lists.{getD-zeros, same-is, count-append}
 
 count-le : (j : ℕ) (s : List ℕ) → count j s ≤ length s
 unfolding count
@@ -24,12 +24,7 @@ pub record Above (order above : List ℕ) (i : ℕ) : Type 0 where
 -- No place is passed.
 pub above-none : (order : List ℕ) → Above order (replicate 8 0) 0
 unfolding count
-above-none order = record { long = refl; counts = λ j h. zeros 8 j }
-  where
-    zeros : (n j : ℕ) → getD (replicate n zero) j 0 ≡ 0
-    zeros zero j = refl
-    zeros (suc n) zero = refl
-    zeros (suc n) (suc j) = zeros n j
+above-none order = record { long = refl; counts = λ j h. getD-zeros 8 j }
 
 -- A count is at most the places passed.
 pub above-few : (order above : List ℕ) (i j : ℕ) → Above order above i → j < 8 → getD above j 0 ≤ i

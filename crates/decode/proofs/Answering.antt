@@ -7,37 +7,29 @@ use native.Mathlib.Nat.{pow-suc, mod-add-mod, mul-le-mul}
 use native.Mathlib.Decide.{decLe}
 use native.Mathlib.Omega.{arith}
 use lib.IntN.{pos}
-use lib.ListN.{length, getD, take, drop, replicate, length-replicate, take-append-drop, List·getD-append, List·getD-eq-default}
+use lib.ListN.{length, getD, take, drop, replicate, length-replicate, take-append-drop, List·getD-eq-default}
 use lib.Seq.{take-take, getD-take}
-use Rattle.ladder.proofs.Bits.{length-bitsAt}
 use Rattle.ladder.specs.Lists.{tabulate, count}
-use Rattle.ladder.specs.Matrix.{Arrangement, orderAfter, signsAfter, Units}
+use Rattle.ladder.specs.Matrix.{Arrangement, orderAfter, signsAfter}
 use Rattle.ladder.specs.Numbers.{numbersOf, wordsOfAll, scalarWords, valueWords, bitsAt}
 use Rattle.ladder.specs.Refusals.{sameNumbers}
-use Rattle.ladder.specs.Walk.{Walk, walkOf, orderOf}
-use Rattle.ladder.specs.Inner.Decoding.{digit, walked, walkedEntry}
+use Rattle.ladder.specs.Walk.{Walk, orderOf}
+use Rattle.ladder.specs.Inner.Decoding.{walked, walkedEntry}
 use Rattle.ladder.proofs.Lists.{getD-map, length-tabulate, getD-tabulate, tabulate-same, count-append}
 use Rattle.ladder.proofs.Numbers.{numbersOf-wordsOfAll, value-fits, length-wordsOfAll}
 use Rattle.ladder.proofs.Tests.{count-suc}
-use Rattle.ladder.proofs.Walk.{order-of-walk, length-orderAfter, length-signsAfter}
 use Rattle.walk.specs.Inner.Ready.{Ready, Columns}
 use Rattle.decode.specs.Inner.{Lowered, Raisable, raised, walkedRow, Checkable, rowSame}
 use Rattle.decode.proofs.Words.{digit-small}
 
 -- ---- the number that a walk yields
 
--- The number of n digits is below 2^n, and its last digit is that of the last sign.
+-- The number of n digits is below 2^n.
 pub walked-below : (d : ℕ) (S : List ℕ) (f : ℕ → List ℕ) (n j : ℕ) → walked d S f n j < 2 ^ n
 unfolding walked
 walked-below d S f zero j = omega arith
 walked-below d S f (suc n) j =
     omega (arith, walked-below d S f n j, digit-small (getD (signsAfter d S f (suc n)) j (pos 0)), pow-suc 2 n)
-
-pub walked-last : (d : ℕ) (S : List ℕ) (f : ℕ → List ℕ) (n j : ℕ) → 1 ≤ n
-    → walked d S f n j % 2 ≡ digit (getD (signsAfter d S f n) j (pos 0))
-unfolding walked
-walked-last d S f zero j h = absurd (omega arith)
-walked-last d S f (suc n) j h = omega (arith, digit-small (getD (signsAfter d S f (suc n)) j (pos 0)))
 
 -- ---- columns above a row
 
@@ -69,40 +61,16 @@ counted-few d S a row j h =
 
 -- ---- the entries
 
-same-d : {w : Walk} {l : ℕ} {bytes : List ℕ} {last : Walk} {values : List ℕ} → Lowered w l bytes last values → last .d ≡ w .d
-unfolding walkOf
-same-d p = ap (λ v. v .d) (p .walk)
-
--- The last walk state's order holds the columns.
-pub last-columns : {w : Walk} {l : ℕ} {bytes : List ℕ} {last : Walk} {values : List ℕ} → Lowered w l bytes last values
-    → Columns (w .d) (last .order)
-last-columns {last} p = subst (λ n. Columns n (last .order)) (same-d p) (p .ready .order)
-
-module _ {w : Walk} {l : ℕ} {bytes : List ℕ} {last : Walk} {values : List ℕ} (p : Lowered w l bytes last values)
-    (low : 1 ≤ l) (ready : Ready w) (row : ℕ) (inside : row ≤ w .d) (above : List ℕ)
-    (counts : (j : ℕ) → j < 8 → getD above j 0 ≡ count (suc j) (take row (last .order))) where
+module _ {w : Walk} {l : ℕ} {bytes order values : List ℕ} (p : Lowered w l bytes order values)
+    (ready : Ready w) (row : ℕ) (inside : row ≤ w .d) (above : List ℕ)
+    (counts : (j : ℕ) → j < 8 → getD above j 0 ≡ count (suc j) (take row order)) where
   abbrev N : ℕ → ℕ
   N = walked (w .d) (orderOf w) (bitsAt (w .d) bytes) l
 
-  last-order : map pred (take (w .d) (last .order)) ≡ orderAfter (orderOf w) (bitsAt (w .d) bytes) l
-  unfolding orderOf
-  last-order =
-      ap (λ n. map pred (take n (last .order))) (sym (same-d p)) ∙ ap orderOf (p .walk)
-      ∙ order-of-walk (w .d) (orderAfter (orderOf w) (bitsAt (w .d) bytes) l) (signsAfter (w .d) (orderOf w) (bitsAt (w .d) bytes) l)
-      (length-orderAfter (w .d) (orderOf w) (bitsAt (w .d) bytes) (ready .order .columns .long) (length-bitsAt (w .d) bytes) l)
-
   above-is : (j : ℕ) → j < w .d → getD above j 0 ≡ count j (take row (orderAfter (orderOf w) (bitsAt (w .d) bytes) l))
   above-is j h =
-      counts j (omega (arith, ready .high)) ∙ counted-above (w .d) (last .order) (last-columns p) row j inside
-      ∙ ap (λ S. count j (take row S)) last-order
-
-  sign-is : (j : ℕ) → j < w .d
-      → getD (last .signs) j (pos 0) ≡ getD (signsAfter (w .d) (orderOf w) (bitsAt (w .d) bytes) l) j (pos 0)
-  unfolding walkOf
-  sign-is j h =
-      ap (λ v. getD (v .signs) j (pos 0)) (p .walk)
-      ∙ List·getD-append (signsAfter (w .d) (orderOf w) (bitsAt (w .d) bytes) l) (replicate (8 - w .d) (pos 0)) (pos 0) j
-      (omega (arith, length-signsAfter (w .d) (orderOf w) (bitsAt (w .d) bytes) l))
+      counts j (omega (arith, ready .high)) ∙ counted-above (w .d) order (p .columns) row j inside
+      ∙ ap (λ S. count j (take row S)) (p .last)
 
   number-at : (j : ℕ) → getD (tabulate (w .d) N) j 0 ≤ 2 ^ l
   number-at j = go (decLe (suc j) (w .d))
@@ -121,40 +89,38 @@ module _ {w : Walk} {l : ℕ} {bytes : List ℕ} {last : Walk} {values : List �
   number-is : (j : ℕ) → j < w .d → getD (numbersOf (w .d) (valueWords l) values) j 0 ≡ N j
   number-is j h = ap (λ ns. getD ns j 0) numbers ∙ getD-tabulate (w .d) N j 0 h
 
-  raisable-words : l ≤ 576 → Raisable (w .d) (valueWords l) (last .signs) above values
+  raisable-words : l ≤ 576 → Raisable (w .d) (valueWords l) above values
   unfolding valueWords
   raisable-words high = record {
     dHigh = ready .high;
     kLow = omega arith;
     kHigh = omega arith;
     long = ap length (p .lower) ∙ length-wordsOfAll (valueWords l) (tabulate (w .d) N) ∙ ap (λ n. n * valueWords l) (length-tabulate (w .d) N);
-    units = subst (λ n. Units n (last .signs)) (same-d p) (p .ready .signs);
     few = λ j h.
-        subst (λ n. n ≤ 1) (sym (counts j (omega (arith, ready .high)) ∙ counted-above (w .d) (last .order) (last-columns p) row j inside))
-        (counted-few (w .d) (map pred (take (w .d) (last .order))) (last-columns p .columns) row j h);
+        subst (λ n. n ≤ 1) (sym (counts j (omega (arith, ready .high)) ∙ counted-above (w .d) order (p .columns) row j inside))
+        (counted-few (w .d) (map pred (take (w .d) order)) (p .columns .columns) row j h);
     room = λ j h.
         subst (λ n. n + 1 < 2 ^ (64 * valueWords l)) (sym (number-is j h))
         (value-fits l (N j + 1) (omega (arith, walked-below (w .d) (orderOf w) (bitsAt (w .d) bytes) l j)));
   }
 
-  raised-words : raised (w .d) (valueWords l) (last .signs) above values ≡ walkedRow w l bytes row
+  raised-words : raised (w .d) (valueWords l) above values ≡ walkedRow w l bytes row
   unfolding raised walkedRow walkedEntry
   raised-words =
       tabulate-same (w .d)
-      (λ j. getD (numbersOf (w .d) (valueWords l) values) j 0 + (digit (getD (last .signs) j (pos 0)) + getD above j 0) % 2)
+      (λ j. getD (numbersOf (w .d) (valueWords l) values) j 0 + (getD (numbersOf (w .d) (valueWords l) values) j 0 % 2 + getD above j 0) % 2)
       (λ j. N j + (N j + count j (take row (orderAfter (orderOf w) (bitsAt (w .d) bytes) l))) % 2)
       (λ j h.
       ap₂ (λ a b. a + b) (number-is j h)
-      (ap₂ (λ a b. (a + b) % 2)
-      (ap digit (sign-is j h) ∙ sym (walked-last (w .d) (orderOf w) (bitsAt (w .d) bytes) l j low)) (above-is j h)
+      (ap₂ (λ a b. (a % 2 + b) % 2) (number-is j h) (above-is j h)
       ∙ mod-add-mod (N j) 2 (count j (take row (orderAfter (orderOf w) (bitsAt (w .d) bytes) l)))))
 
   -- The lower numbers, k words each, can be raised, and are the row then.
   module _ (k : ℕ) (words : k ≡ valueWords l) where
-    pub raisable : l ≤ 576 → Raisable (w .d) k (last .signs) above values
-    raisable high = subst (λ n. Raisable (w .d) n (last .signs) above values) (sym words) (raisable-words high)
+    pub raisable : l ≤ 576 → Raisable (w .d) k above values
+    raisable high = subst (λ n. Raisable (w .d) n above values) (sym words) (raisable-words high)
 
-    pub raised-row : wordsOfAll k (raised (w .d) k (last .signs) above values) ≡ wordsOfAll (valueWords l) (walkedRow w l bytes row)
+    pub raised-row : wordsOfAll k (raised (w .d) k above values) ≡ wordsOfAll (valueWords l) (walkedRow w l bytes row)
     raised-row = rw words (ap (wordsOfAll (valueWords l)) raised-words)
 
 -- ---- comparing

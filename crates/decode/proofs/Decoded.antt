@@ -58,7 +58,6 @@ at-plan : (p : Plan) (values : List ℕ) → PlanOk p → length values ≡ valu
 unfolding walkOf valuesLength
 at-plan p values ok long = record {
   ready = ready-start p (ok .plan);
-  start = ap (λ S. walkOf (p .d) S (startSigns (p .d))) (sym (order-is p (ok .plan)));
   lLow = ok .plan .lLow;
   lHigh = ok .plan .lHigh;
   bits = ok .bits;

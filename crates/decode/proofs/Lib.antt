@@ -1,4 +1,5 @@
 pub mod Words
+pub mod Pushing
 pub mod Partly
 pub mod Lowering
 pub mod Above

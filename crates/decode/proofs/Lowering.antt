@@ -1,182 +1,158 @@
--- The walk through a plan, under way: the walk state after the steps taken, and each column's lower number partly in words.
+-- The walk through a plan, under way: the order after the steps taken, and each column's lower number partly in words.
 -- Assumes nothing.
-use Prim.Native.Nat.{ℕ, zero, suc, _+_, _-_, _*_, _/_, _%_, _^_, _≤_, _<_}
+use Prim.Native.Nat.{ℕ, suc, pred, _+_, _-_, _*_, _/_, _%_, _^_, _≤_, _<_}
 use mathlib.Core.Path.{_≡_, refl, sym, ap, subst, _∙_}
-use mathlib.Core.List.{List}
-use native.Mathlib.Nat.{zero-mod, zero-div, sub-self, mod-lt, lt-of-lt-of-le}
+use mathlib.Core.List.{List, _++_, map}
+use native.Mathlib.Nat.{zero-mod, zero-div, sub-self}
 use native.Mathlib.Omega.{arith}
 use lib.IntN.{pos}
-use lib.ListN.{length, getD, replicate, List·getD-append}
-use lib.Pow.{pow-pos, pow-mono}
+use lib.ListN.{length, getD, take, replicate, length-replicate}
 use Rattle.ladder.specs.Lists.{tabulate}
-use Rattle.ladder.specs.Matrix.{orderAfter, signsAfter, Units}
+use Rattle.ladder.specs.Matrix.{Arrangement, stepOrder, orderAfter, signsAfter}
 use Rattle.ladder.specs.Numbers.{valueWords, wordsOfAll, bitsAt}
-use Rattle.ladder.specs.Walk.{Walk, walkOf, orderOf, stepWalk}
+use Rattle.ladder.specs.Walk.{Walk, bitsOf, orderOf}
 use Rattle.ladder.specs.Inner.Decoding.{digit, walked}
-use Rattle.ladder.proofs.Walk.{length-signsAfter}
-use Rattle.walk.specs.Inner.Ready.{Ready}
+use Rattle.ladder.proofs.Bits.{length-bitsAt, bitAt-below}
+use Rattle.ladder.proofs.Numbers.{tabulate-below}
+use Rattle.ladder.proofs.Lists.{getD-zeros}
+use Rattle.ladder.proofs.Walk.{length-bitsOf}
+use Rattle.walk.specs.Inner.Ready.{Columns}
 use Rattle.walk.specs.Inner.ReadBits.{ReadBits}
-use Rattle.walk.proofs.Stepping.{ready-step, walk-on}
-use Rattle.decode.specs.Inner.{stored, heldThen, storedThen, AtStart, Lowered}
+use Rattle.walk.proofs.Stepping.{columns-after, columns-step}
+use Rattle.decode.specs.Inner.{stored, storedThen, Pushed, AtStart, Lowered}
 use Rattle.decode.proofs.Words.{length-stored, digit-small}
-use Rattle.decode.proofs.Partly.{Partly, heldDigits, stored-at, partly-next, partly-ends}
+use Rattle.decode.proofs.Pushing.{pushed-signs}
+use Rattle.decode.proofs.Partly.{Partly, stored-at, partly-next, partly-ends}
 
-pub record Lowering (start : Walk) (l : ℕ) (bytes : List ℕ) (w : Walk) (held values : List ℕ) (left : ℕ) : Type 0 where
+pub record Lowering (start : Walk) (l : ℕ) (bytes order held values : List ℕ) (left : ℕ) : Type 0 where
   pub begun : AtStart start l bytes values
-  pub ready : Ready w
   pub inside : left ≤ l
-  pub walk : w
-      ≡ walkOf (start .d) (orderAfter (orderOf start) (bitsAt (start .d) bytes) (l - left))
-      (signsAfter (start .d) (orderOf start) (bitsAt (start .d) bytes) (l - left))
+  pub many : length held ≡ start .d
+  pub columns : Columns (start .d) order
+  pub places : map pred (take (start .d) order) ≡ orderAfter (orderOf start) (bitsAt (start .d) bytes) (l - left)
   pub words : Partly (start .d) (valueWords l) left (walked (start .d) (orderOf start) (bitsAt (start .d) bytes) (l - left)) held values
-
-zeros-at : (n j : ℕ) → getD (replicate n zero) j 0 ≡ 0
-zeros-at zero j = refl
-zeros-at (suc n) zero = refl
-zeros-at (suc n) (suc j) = zeros-at n j
 
 -- Before the first step.
 pub lowering-starts : (start : Walk) (l : ℕ) (bytes values : List ℕ) → AtStart start l bytes values
-    → Lowering start l bytes start (replicate 8 0) (stored (start .d) (valueWords l) (l / 64) (replicate 8 0) values) l
-unfolding orderAfter signsAfter walked valueWords
+    → Lowering start l bytes (start .order) (replicate (start .d) 0) (stored (start .d) (valueWords l) (l / 64) (replicate (start .d) 0) values) l
+unfolding orderAfter orderOf walked valueWords
 lowering-starts start l bytes values a = record {
   begun = record {
     ready = a .ready;
-    start = a .start;
     lLow = a .lLow;
     lHigh = a .lHigh;
     bits = a .bits;
     words = long ∙ a .words;
   };
-  ready = a .ready;
   inside = omega arith;
-  walk =
-      a .start
-      ∙ sym (ap (λ n. walkOf (start .d) (orderAfter (orderOf start) (bitsAt (start .d) bytes) n) (signsAfter (start .d) (orderOf start) (bitsAt (start .d) bytes) n)) (sub-self l));
-  words = subst (λ n. Partly (start .d) (l / 64 + 1) l (walked (start .d) (orderOf start) (bitsAt (start .d) bytes) n) (replicate 8 0) (stored (start .d) (l / 64 + 1) (l / 64) (replicate 8 0) values)) (sym (sub-self l)) (record {
+  many = length-replicate (start .d) 0;
+  columns = a .ready .order;
+  places = sym (ap (orderAfter (orderOf start) (bitsAt (start .d) bytes)) (sub-self l));
+  words = subst (λ n. Partly (start .d) (l / 64 + 1) l (walked (start .d) (orderOf start) (bitsAt (start .d) bytes) n) zeros (stored (start .d) (l / 64 + 1) (l / 64) zeros values)) (sym (sub-self l)) (record {
     long = long ∙ a .words;
-    low = λ j h. zeros-at 8 j ∙ sym (zero-mod (2 ^ heldDigits l));
+    low = λ j h. getD-zeros (start .d) j ∙ sym (zero-mod (2 ^ 64));
     high = λ j v h b q.
         let e : v ≡ l / 64 = omega arith in
-        ap (λ u. getD (stored (start .d) (l / 64 + 1) (l / 64) (replicate 8 0) values) (j * (l / 64 + 1) + u) 0) e
-        ∙ stored-at (start .d) (l / 64 + 1) (l / 64) (replicate 8 0) values j (omega arith) (omega (arith, a .words)) h
-        ∙ zeros-at 8 j
+        ap (λ u. getD (stored (start .d) (l / 64 + 1) (l / 64) zeros values) (j * (l / 64 + 1) + u) 0) e
+        ∙ stored-at (start .d) (l / 64 + 1) (l / 64) zeros values j (omega arith) (omega (arith, a .words)) h
+        ∙ getD-zeros (start .d) j
         ∙ sym (ap (λ n. n % 2 ^ 64) (zero-div (2 ^ (64 * v - l))));
   });
 }
   where
-    long : length (stored (start .d) (valueWords l) (l / 64) (replicate 8 0) values) ≡ length values
-    long = length-stored (start .d) (valueWords l) (l / 64) (replicate 8 0) values
+    zeros : List ℕ
+    zeros = replicate (start .d) 0
+
+    long : length (stored (start .d) (valueWords l) (l / 64) zeros values) ≡ length values
+    long = length-stored (start .d) (valueWords l) (l / 64) zeros values
 
 -- A value has a word.
 words-some : (l : ℕ) → 0 < valueWords l
 unfolding valueWords
 words-some l = omega arith
 
--- The words after one step more, whose walk state is `next`.
-grown-words : {start : Walk} {l : ℕ} {bytes : List ℕ} {w : Walk} {held values : List ℕ} {left : ℕ}
-    → Lowering start l bytes w held values left → 0 < left → (next : Walk)
-    → next
-    ≡ walkOf (start .d) (orderAfter (orderOf start) (bitsAt (start .d) bytes) (l - (left - 1)))
-    (signsAfter (start .d) (orderOf start) (bitsAt (start .d) bytes) (l - (left - 1)))
-    → (more : List ℕ) → ((j : ℕ) → j < start .d → getD more j 0 ≡ 2 * getD held j 0 + digit (getD (next .signs) j (pos 0)))
-    → Partly (start .d) (valueWords l) (left - 1) (walked (start .d) (orderOf start) (bitsAt (start .d) bytes) (l - (left - 1)))
-    (heldThen (left - 1) more) (storedThen (start .d) (valueWords l) (left - 1) more values)
-unfolding walked walkOf valueWords
-grown-words {start} {l} {bytes} {w} {held} {values} {left} p h next walk more pushed =
-    let d = start .d in
-    let S = orderOf start in
-    let f = bitsAt d bytes in
-    let n = l - left in
-    let t : ℕ → ℕ = λ j. digit (getD (signsAfter d S f (suc n)) j (pos 0)) in
-    let on : suc n ≡ l - (left - 1) = omega (arith, p .inside) in
-    let one : left ≡ left - 1 + 1 = omega arith in
-    subst
-    (λ m. Partly d (l / 64 + 1) (left - 1) (walked d S f m) (heldThen (left - 1) more) (storedThen d (l / 64 + 1) (left - 1) more values))
-    on
-    (partly-next (left - 1) (subst (λ i. Partly d (l / 64 + 1) i (walked d S f n) held values) one (p .words))
-    (walked d S f (suc n)) t (λ j b. refl) (λ j b. omega (arith, digit-small (getD (signsAfter d S f (suc n)) j (pos 0)))) more
-    (λ j b.
-    pushed j b
-    ∙ ap (λ s. 2 * getD held j 0 + digit s)
-    (ap (λ v. getD (v .signs) j (pos 0)) walk
-    ∙ List·getD-append (signsAfter d S f (l - (left - 1))) (replicate (8 - d) (pos 0)) (pos 0) j
-    (omega (arith, length-signsAfter d S f (l - (left - 1))))
-    ∙ ap (λ m. getD (signsAfter d S f m) j (pos 0)) (sym on)))
-    (omega (arith, p .inside)))
+bits-below : (d : ℕ) (bytes : List ℕ) (s j : ℕ) → getD (bitsAt d bytes s) j 0 < 2
+unfolding bitsAt
+bits-below d bytes s = tabulate-below 2 d _ (omega arith) (λ i h. bitAt-below bytes (s * d + i))
 
-module _ {start : Walk} {l : ℕ} {bytes : List ℕ} {w : Walk} {held values : List ℕ} {left : ℕ}
-    (p : Lowering start l bytes w held values left) where
-  -- The digits held leave room for one more.
-  pub held-room : (j : ℕ) → j < start .d → getD held j 0 < 2 ^ 63
-  held-room j h =
-      let e : heldDigits left ≤ 63 = omega arith in
-      subst (λ n. n < 2 ^ 63) (sym (p .words .low j h))
-      (lt-of-lt-of-le (mod-lt (walked (start .d) (orderOf start) (bitsAt (start .d) bytes) (l - left) j) (pow-pos (heldDigits left))) (pow-mono e))
+module _ {start : Walk} {l : ℕ} {bytes order held values : List ℕ} {left : ℕ} (p : Lowering start l bytes order held values left)
+    (h : 0 < left) (r : ℕ) (read : ReadBits (start .d) (l - left) bytes r)
+    (next : List ℕ) (e : next ≡ stepOrder (take (start .d) order) (bitsOf (start .d) r) ++ replicate (8 - start .d) 0)
+    (more : List ℕ)
+    (pushed : Pushed (start .d) (stepOrder (map pred (take (start .d) order)) (bitsOf (start .d) r)) (bitsOf (start .d) r) held more) where
+  abbrev d : ℕ
+  d = start .d
 
-  -- The signs of the next walk state are 1 or -1.
-  pub next-units : (r : ℕ) (next : Walk) → next ≡ stepWalk w r → Units (start .d) (next .signs)
-  unfolding stepWalk walkOf
-  next-units r next e =
-      let same : stepWalk w r .d ≡ start .d = ap (λ v. v .d) (p .walk) in
-      subst (λ v. Units (start .d) (v .signs)) (sym e) (subst (λ n. Units n (stepWalk w r .signs)) same (ready-step (p .ready) r .signs))
+  abbrev S : List ℕ
+  S = orderOf start
 
-  -- The walk state after one step more.
-  walk-next : 0 < left → (r : ℕ) → ReadBits (start .d) (l - left) bytes r
-      → stepWalk w r
-      ≡ walkOf (start .d) (orderAfter (orderOf start) (bitsAt (start .d) bytes) (l - (left - 1)))
-      (signsAfter (start .d) (orderOf start) (bitsAt (start .d) bytes) (l - (left - 1)))
-  unfolding orderOf
-  walk-next h r bits =
-      let d = start .d in
-      let S = orderOf start in
-      let f = bitsAt d bytes in
-      let n = l - left in
-      let more : suc n ≡ l - (left - 1) = omega (arith, p .inside) in
-      ap (λ v. stepWalk v r) (p .walk)
-      ∙ walk-on d S bytes n r (p .begun .ready .order .columns .long) bits
-      ∙ ap (λ m. walkOf d (orderAfter S f m) (signsAfter d S f m)) more
+  abbrev f : ℕ → List ℕ
+  f = bitsAt d bytes
+
+  on : suc (l - left) ≡ l - (left - 1)
+  on = omega (arith, p .inside)
+
+  columns-next : Columns d next
+  columns-next = subst (Columns d) (sym e) (columns-step (p .columns) (bitsOf d r) (length-bitsOf d r) (replicate (8 - d) 0))
+
+  -- The order after one step more ..
+  new-order : stepOrder (map pred (take d order)) (bitsOf d r) ≡ orderAfter S f (suc (l - left))
+  unfolding orderAfter
+  new-order = rw (p .places, read .bits)
+
+  places-next : map pred (take d next) ≡ orderAfter S f (suc (l - left))
+  places-next =
+      ap (λ o. map pred (take d o)) e
+      ∙ columns-after (p .columns) (bitsOf d r) (length-bitsOf d r) (replicate (8 - d) 0)
+      ∙ new-order
+
+  -- .. and each column's digits.
+  low-next : (j : ℕ) → j < d → getD more j 0 ≡ walked d S f (suc (l - left)) j % 2 ^ 64
+  low-next =
+      pushed-signs d S f (l - left) (length-bitsAt d bytes) (bits-below d bytes) (subst (Arrangement d) places-next (columns-next .columns)) held more
+      (p .words .low)
+      (subst (λ T. Pushed d T (f (l - left)) held more) new-order
+      (subst (λ b. Pushed d (stepOrder (map pred (take d order)) (bitsOf d r)) b held more) (read .bits) pushed))
+
+  words-next : Partly d (valueWords l) (left - 1) (walked d S f (l - (left - 1))) more (storedThen d (valueWords l) (left - 1) more values)
+  unfolding walked valueWords
+  words-next =
+      let t : ℕ → ℕ = λ j. digit (getD (signsAfter d S f (suc (l - left))) j (pos 0)) in
+      let one : left ≡ left - 1 + 1 = omega arith in
+      subst (λ m. Partly d (l / 64 + 1) (left - 1) (walked d S f m) more (storedThen d (l / 64 + 1) (left - 1) more values)) on
+      (partly-next (left - 1) (subst (λ i. Partly d (l / 64 + 1) i (walked d S f (l - left)) held values) one (p .words))
+      (walked d S f (suc (l - left))) t (λ j b. refl) (λ j b. omega (arith, digit-small (getD (signsAfter d S f (suc (l - left))) j (pos 0))))
+      more low-next (omega (arith, p .inside)))
 
   -- After one step more.
-  pub lowering-next : 0 < left → (r : ℕ) → ReadBits (start .d) (l - left) bytes r → (next : Walk) → next ≡ stepWalk w r
-      → (more : List ℕ) → ((j : ℕ) → j < start .d → getD more j 0 ≡ 2 * getD held j 0 + digit (getD (next .signs) j (pos 0)))
-      → Lowering start l bytes next (heldThen (left - 1) more) (storedThen (start .d) (valueWords l) (left - 1) more values) (left - 1)
-  lowering-next h r bits next e more pushed = record {
+  pub lowering-next : Lowering start l bytes next more (storedThen d (valueWords l) (left - 1) more values) (left - 1)
+  lowering-next = record {
     begun = record {
       ready = p .begun .ready;
-      start = p .begun .start;
       lLow = p .begun .lLow;
       lHigh = p .begun .lHigh;
       bits = p .begun .bits;
-      words = words .long;
+      words = words-next .long;
     };
-    ready = subst Ready (sym e) (ready-step (p .ready) r);
     inside = omega (arith, p .inside);
-    walk = walk;
-    words = words;
+    many = pushed .long;
+    columns = columns-next;
+    places = places-next ∙ ap (orderAfter S f) on;
+    words = words-next;
   }
-    where
-      walk : next
-          ≡ walkOf (start .d) (orderAfter (orderOf start) (bitsAt (start .d) bytes) (l - (left - 1)))
-          (signsAfter (start .d) (orderOf start) (bitsAt (start .d) bytes) (l - (left - 1)))
-      walk = e ∙ walk-next h r bits
-
-      words : Partly (start .d) (valueWords l) (left - 1) (walked (start .d) (orderOf start) (bitsAt (start .d) bytes) (l - (left - 1)))
-          (heldThen (left - 1) more) (storedThen (start .d) (valueWords l) (left - 1) more values)
-      words = grown-words p h next walk more pushed
 
 -- After the last step.
-pub lowering-ends : (start : Walk) (l : ℕ) (bytes : List ℕ) (w : Walk) (held values : List ℕ) (left : ℕ)
-    → Lowering start l bytes w held values left → left ≤ 0 → Lowered start l bytes w values
-lowering-ends start l bytes w held values left p h =
+pub lowering-ends : (start : Walk) (l : ℕ) (bytes order held values : List ℕ) (left : ℕ)
+    → Lowering start l bytes order held values left → left ≤ 0 → Lowered start l bytes order values
+lowering-ends start l bytes order held values left p h =
     let z : left ≡ 0 = omega arith in
     let e : l - left ≡ l = omega arith in
     let d = start .d in
     let S = orderOf start in
     let f = bitsAt d bytes in
     record {
-      ready = p .ready;
-      walk = p .walk ∙ ap (λ n. walkOf d (orderAfter S f n) (signsAfter d S f n)) e;
+      columns = p .columns;
+      last = p .places ∙ ap (orderAfter S f) e;
       lower =
           partly-ends d (valueWords l) (walked d S f (l - left)) held values (words-some l)
           (subst (λ i. Partly d (valueWords l) i (walked d S f (l - left)) held values) z (p .words))

@@ -1,23 +1,23 @@
--- Values under way: with i digits still to come, the digits of the current word are held, and the words above are written.
+-- Values under way: with i digits still to come, the last 64 digits are held, and the words that are full are written.
 -- Assumes nothing.
 use Prim.Native.Nat.{ℕ, zero, suc, _+_, _-_, _*_, _/_, _%_, _^_, _≤_, _<_}
-use mathlib.Core.Path.{_≡_, refl, sym, ap, ap₂, subst, subst₂, _∙_}
+use mathlib.Core.Path.{_≡_, refl, sym, ap, ap₂, subst, _∙_}
 use mathlib.Core.Bool.{cond}
 use borrow.Author.Tests.{eq-eqb, ne-eqb}
 use mathlib.Core.Logic.{_≢_}
 use mathlib.Core.List.{List, [], _∷_, _++_, flatten}
-use native.Mathlib.Nat.{mod-one, div-one, div-add-mod', mod-lt, div-lt-iff-lt-mul, le-of-suc-le-suc, not-suc-le-zero, zero-mul, suc-mul, zero-add}
+use native.Mathlib.Nat.{div-one, div-add-mod', mod-lt, div-lt-iff-lt-mul, le-of-suc-le-suc, not-suc-le-zero, zero-mul, suc-mul, zero-add}
 use native.Mathlib.Decide.{ℕ-discrete}
 use native.Mathlib.Omega.{arith}
-use lib.ListN.{length, getD, set, replicate, List·getD-append}
+use lib.ListN.{length, getD, set, List·getD-append}
 use lib.Arith.{digits-div}
-use lib.Pow.{shr-shr, mod-pow-add}
+use lib.Pow.{shr-shr}
 use lib.Seq.{ext-getD, getD-set-same, getD-set-other, getD-append-add}
 use Rattle.ladder.specs.Lists.{tabulate}
 use Rattle.ladder.specs.Numbers.{wordsOf, wordsOfAll}
 use Rattle.ladder.proofs.Lists.{length-tabulate, getD-tabulate}
 use Rattle.ladder.proofs.Numbers.{length-wordsOf, length-wordsOfAll}
-use Rattle.decode.specs.Inner.{stored, heldThen, storedThen}
+use Rattle.decode.specs.Inner.{stored, storedThen}
 use Rattle.decode.proofs.Words.{length-stored, word-inside}
 
 -- ---- where a word stands
@@ -108,22 +108,12 @@ stored-other (suc i) k w held values j v h l n =
 
 -- ---- values under way
 
--- The digits held of the current word.
-abbrev pub heldDigits : ℕ → ℕ
-heldDigits i = (64 - i % 64) % 64
-
 pub record Partly (d k i : ℕ) (N : ℕ → ℕ) (held values : List ℕ) : Type 0 where
   pub long : length values ≡ d * k
-  pub low : (j : ℕ) → j < d → getD held j 0 ≡ N j % 2 ^ heldDigits i
+  pub low : (j : ℕ) → j < d → getD held j 0 ≡ N j % 2 ^ 64
   pub high : (j v : ℕ) → j < d → v < k → i ≤ 64 * v → getD values (j * k + v) 0 ≡ N j / 2 ^ (64 * v - i) % 2 ^ 64
 
--- Twice a number plus a digit, and its last c+1 digits.
-grown-low : (n t c : ℕ) → t < 2 → 2 * (n % 2 ^ c) + t ≡ (2 * n + t) % 2 ^ (c + 1)
-grown-low n t c h =
-    let half : (2 * n + t) / 2 ≡ n = omega arith in
-    let last : (2 * n + t) % 2 ≡ t = omega arith in
-    sym (mod-pow-add (2 * n + t) c 1 ∙ ap₂ (λ a b. a % 2 ^ c * 2 + b) half last ∙ omega arith)
-
+-- Twice a number plus a digit, without its last e+1 digits.
 grown-high : (n t e : ℕ) → t < 2 → n / 2 ^ e ≡ (2 * n + t) / 2 ^ (e + 1)
 grown-high n t e h =
     let half : n ≡ (2 * n + t) / 2 = omega arith in
@@ -132,13 +122,7 @@ grown-high n t e h =
 
 module _ {d k : ℕ} (i : ℕ) {N : ℕ → ℕ} {held values : List ℕ} (p : Partly d k (i + 1) N held values)
     (M t : ℕ → ℕ) (grown : (j : ℕ) → j < d → M j ≡ 2 * N j + t j) (small : (j : ℕ) → j < d → t j < 2)
-    (more : List ℕ) (pushed : (j : ℕ) → j < d → getD more j 0 ≡ 2 * getD held j 0 + t j) where
-  -- One digit more of each number.
-  low-next : (j : ℕ) → j < d → getD more j 0 ≡ M j % 2 ^ (heldDigits (i + 1) + 1)
-  low-next j h =
-      pushed j h ∙ ap (λ n. 2 * n + t j) (p .low j h) ∙ grown-low (N j) (t j) (heldDigits (i + 1)) (small j h)
-      ∙ ap (λ n. n % 2 ^ (heldDigits (i + 1) + 1)) (sym (grown j h))
-
+    (more : List ℕ) (low : (j : ℕ) → j < d → getD more j 0 ≡ M j % 2 ^ 64) where
   high-next : (j v : ℕ) → j < d → v < k → i + 1 ≤ 64 * v → getD values (j * k + v) 0 ≡ M j / 2 ^ (64 * v - i) % 2 ^ 64
   high-next j v h l b =
       let e : 64 * v - (i + 1) + 1 ≡ 64 * v - i = omega arith in
@@ -147,46 +131,32 @@ module _ {d k : ℕ} (i : ℕ) {N : ℕ → ℕ} {held values : List ℕ} (p : P
       (grown-high (N j) (t j) (64 * v - (i + 1)) (small j h)
       ∙ ap₂ (λ n m. n / 2 ^ m) (sym (grown j h)) e)
 
-  -- The word is not full: the digits are held.
-  pub partly-kept : i % 64 ≢ 0 → Partly d k i M more values
+  -- The word is not full: nothing is stored.
+  partly-kept : i % 64 ≢ 0 → Partly d k i M more values
   partly-kept n = record {
     long = p .long;
-    low = λ j h. low-next j h ∙ ap (λ m. M j % 2 ^ m) (digits-more i n);
+    low = low;
     high = λ j v h l b. high-next j v h l (beyond v b);
   }
     where
-      digits-more : (m : ℕ) → m % 64 ≢ 0 → heldDigits (m + 1) + 1 ≡ heldDigits m
-      digits-more m z = omega arith
-
       beyond : (v : ℕ) → i ≤ 64 * v → i + 1 ≤ 64 * v
       beyond v b = omega arith
 
-  -- The word is full: it is stored, and the next begins.
-  pub partly-stored : i % 64 ≡ 0 → i / 64 < k → Partly d k i M (replicate 8 0) (stored d k (i / 64) more values)
+  -- The word is full: it is stored.
+  partly-stored : i % 64 ≡ 0 → i / 64 < k → Partly d k i M more (stored d k (i / 64) more values)
   partly-stored z w = record {
     long = length-stored d k (i / 64) more values ∙ p .long;
-    low = λ j h. none 8 j ∙ sym (ap (λ m. M j % 2 ^ m) (fresh i z) ∙ mod-one (M j));
+    low = low;
     high = λ j v h l b. at j v h l b (ℕ-discrete v (i / 64));
   }
     where
-      none : (n j : ℕ) → getD (replicate n zero) j 0 ≡ 0
-      none zero j = refl
-      none (suc n) zero = refl
-      none (suc n) (suc j) = none n j
-
-      fresh : (m : ℕ) → m % 64 ≡ 0 → heldDigits m ≡ 0
-      fresh m q = omega arith
-
-      full : (m : ℕ) → m % 64 ≡ 0 → heldDigits (m + 1) + 1 ≡ 64
-      full m q = omega arith
-
       at : (j v : ℕ) → j < d → v < k → i ≤ 64 * v → Dec (v ≡ i / 64)
           → getD (stored d k (i / 64) more values) (j * k + v) 0 ≡ M j / 2 ^ (64 * v - i) % 2 ^ 64
       at j v h l b (yes e) =
           let x : 64 * v - i ≡ 0 = omega arith in
           ap (λ u. getD (stored d k (i / 64) more values) (j * k + u) 0) e
           ∙ stored-at d k (i / 64) more values j w (omega (arith, p .long)) h
-          ∙ low-next j h ∙ ap (λ m. M j % 2 ^ m) (full i z)
+          ∙ low j h
           ∙ sym (ap (λ m. M j / 2 ^ m % 2 ^ 64) x ∙ ap (λ n. n % 2 ^ 64) (div-one (M j)))
       at j v h l b (no e) =
           stored-other d k (i / 64) more values j v w l e ∙ high-next j v h l (omega arith)
@@ -198,37 +168,25 @@ partly-ends d k N held values h p =
     words-of-all d k N values h (p .long)
     (λ j v b c. let e : 64 * v - 0 ≡ 64 * v = omega arith in p .high j v b c (omega arith) ∙ ap (λ m. N j / 2 ^ m % 2 ^ 64) e)
 
--- ---- full words and held digits
+-- ---- full words
 
-pub full-held : (left : ℕ) (more : List ℕ) → left % 64 ≡ 0 → replicate 8 0 ≡ heldThen left more
-unfolding heldThen
-full-held left more e = sym (ap (λ t. cond t (replicate 8 0) more) (eq-eqb (left % 64) 0 e))
-
-pub full-stored : (d k left : ℕ) (more values : List ℕ) → left % 64 ≡ 0 → stored d k (left / 64) more values ≡ storedThen d k left more values
+pub full-stored : (d k left : ℕ) (held values : List ℕ) → left % 64 ≡ 0 → stored d k (left / 64) held values ≡ storedThen d k left held values
 unfolding storedThen
-full-stored d k left more values e =
-    sym (ap (λ t. cond t (stored d k (left / 64) more values) values) (eq-eqb (left % 64) 0 e))
+full-stored d k left held values e =
+    sym (ap (λ t. cond t (stored d k (left / 64) held values) values) (eq-eqb (left % 64) 0 e))
 
-pub part-held : (left : ℕ) (more : List ℕ) → left % 64 ≢ 0 → more ≡ heldThen left more
-unfolding heldThen
-part-held left more e = sym (ap (λ t. cond t (replicate 8 0) more) (ne-eqb (left % 64) 0 e))
-
-pub part-stored : (d k left : ℕ) (more values : List ℕ) → left % 64 ≢ 0 → values ≡ storedThen d k left more values
+pub part-stored : (d k left : ℕ) (held values : List ℕ) → left % 64 ≢ 0 → values ≡ storedThen d k left held values
 unfolding storedThen
-part-stored d k left more values e =
-    sym (ap (λ t. cond t (stored d k (left / 64) more values) values) (ne-eqb (left % 64) 0 e))
+part-stored d k left held values e =
+    sym (ap (λ t. cond t (stored d k (left / 64) held values) values) (ne-eqb (left % 64) 0 e))
 
--- One digit more of each number, stored or held.
+-- One digit more of each number.
 pub partly-next : {d k : ℕ} (i : ℕ) {N : ℕ → ℕ} {held values : List ℕ} → Partly d k (i + 1) N held values
     → (M t : ℕ → ℕ) → ((j : ℕ) → j < d → M j ≡ 2 * N j + t j) → ((j : ℕ) → j < d → t j < 2)
-    → (more : List ℕ) → ((j : ℕ) → j < d → getD more j 0 ≡ 2 * getD held j 0 + t j) → i / 64 < k
-    → Partly d k i M (heldThen i more) (storedThen d k i more values)
-partly-next {d} {k} i {N} {held} {values} p M t grown small more pushed w = go (ℕ-discrete (i % 64) 0)
+    → (more : List ℕ) → ((j : ℕ) → j < d → getD more j 0 ≡ M j % 2 ^ 64) → i / 64 < k
+    → Partly d k i M more (storedThen d k i more values)
+partly-next {d} {k} i {N} {held} {values} p M t grown small more low w = go (ℕ-discrete (i % 64) 0)
   where
-    go : Dec (i % 64 ≡ 0) → Partly d k i M (heldThen i more) (storedThen d k i more values)
-    go (yes z) =
-        subst₂ (λ h v. Partly d k i M h v) (full-held i more z) (full-stored d k i more values z)
-        (partly-stored i p M t grown small more pushed z w)
-    go (no z) =
-        subst₂ (λ h v. Partly d k i M h v) (part-held i more z) (part-stored d k i more values z)
-        (partly-kept i p M t grown small more pushed z)
+    go : Dec (i % 64 ≡ 0) → Partly d k i M more (storedThen d k i more values)
+    go (yes z) = subst (Partly d k i M more) (full-stored d k i more values z) (partly-stored i p M t grown small more low z w)
+    go (no z) = subst (Partly d k i M more) (part-stored d k i more values z) (partly-kept i p M t grown small more low z)

@@ -1,26 +1,23 @@
 -- From lower numbers to entries: values raised one by one.
 -- Assumes nothing.
 use Prim.Native.Nat.{ℕ, zero, suc, _+_, _-_, _*_, _%_, _^_, _≤_, _<_}
-use mathlib.Core.Path.{_≡_, sym, ap, ap₂, subst, subst₂, _∙_}
+use mathlib.Core.Path.{_≡_, refl, sym, ap, ap₂, subst, subst₂, _∙_}
 use mathlib.Core.Logic.{_≢_}
 use mathlib.Core.Bool.{cond}
 use mathlib.Core.List.{List, [], _∷_, _++_, flatten, append-assoc}
 use borrow.Author.Tests.{lt-ltb, le-ltb, eq-eqb, ne-eqb}
 use borrow.Rule.Slice.PartMut.{putMid, post-is}
-use native.Mathlib.Nat.{le-of-suc-le-suc, not-suc-le-zero, zero-mul, suc-mul, mul-le-mul-right, add-zero}
+use native.Mathlib.Nat.{le-of-suc-le-suc, not-suc-le-zero, zero-mul, suc-mul, mul-le-mul, mul-le-mul-right, add-zero}
 use native.Mathlib.Decide.{ℕ-discrete, decLe}
 use native.Mathlib.Omega.{arith}
 use lib.Dec.{ltb}
 use lib.ListN.{length, getD, set, take, drop, length-set, length-drop}
-use lib.IntN.{ℤ, pos}
-use lib.Seq.{length-take-le, getD-set-same, getD-set-other, take-at, drop-at, take-append-add, drop-append-add, ext-getD}
+use lib.Seq.{length-take-le, getD-drop, getD-set-same, getD-set-other, take-at, drop-at, take-append-add, drop-append-add, ext-getD}
 use Rattle.ladder.specs.Lists.{tabulate}
 use Rattle.ladder.specs.Numbers.{numberOf, numbersOf, wordsOf, wordsOfAll}
 use Rattle.ladder.proofs.Lists.{length-tabulate, getD-tabulate, tabulate-same, tabulate-getD}
-use Rattle.ladder.specs.Inner.Decoding.{digit}
 use Rattle.ladder.proofs.Numbers.{length-wordsOf, numberOf-wordsOf, length-wordsOfAll, length-numbersOf, wordsOfAll-numbersOf}
 use Rattle.decode.specs.Inner.{OneRaisable, raisedOne, Raisable, raised}
-use Rattle.decode.proofs.Words.{digit-small}
 
 -- ---- the words of one value among many
 
@@ -154,20 +151,27 @@ not-raised k j digit above values e =
 
 -- ---- values raised one by one, under way
 
+-- The last digit of a number is that of its first word.
+first-word : (k : ℕ) (ws : List ℕ) → 1 ≤ k → getD ws 0 0 % 2 ≡ numberOf (take k ws) % 2
+unfolding numberOf
+first-word zero ws h = absurd (not-suc-le-zero h)
+first-word (suc k) [] h = refl
+first-word (suc k) (w ∷ ws) h = omega arith
+
 -- What is added to value i.
-abbrev pub addedTo : List ℤ → List ℕ → ℕ → ℕ
-addedTo signs above i = (digit (getD signs i (pos 0)) + getD above i 0) % 2
+abbrev pub addedTo : List ℕ → List ℕ → ℕ → ℕ
+addedTo ns above i = (getD ns i 0 % 2 + getD above i 0) % 2
 
-pub record Raising (d k : ℕ) (signs : List ℤ) (above start values : List ℕ) (j : ℕ) : Type 0 where
-  pub begun : Raisable d k signs above start
+pub record Raising (d k : ℕ) (above start values : List ℕ) (j : ℕ) : Type 0 where
+  pub begun : Raisable d k above start
   pub inside : j ≤ d
-  pub words : values ≡ wordsOfAll k (raisedTo d (λ i. getD (numbersOf d k start) i 0) (addedTo signs above) j)
+  pub words : values ≡ wordsOfAll k (raisedTo d (λ i. getD (numbersOf d k start) i 0) (addedTo (numbersOf d k start) above) j)
 
-module _ {d k : ℕ} {signs : List ℤ} {above start values : List ℕ} {j : ℕ} (p : Raising d k signs above start values j) where
+module _ {d k : ℕ} {above start values : List ℕ} {j : ℕ} (p : Raising d k above start values j) where
   long-now : length values ≡ d * k
   long-now =
-      ap length (p .words) ∙ length-wordsOfAll k (raisedTo d (λ i. getD (numbersOf d k start) i 0) (addedTo signs above) j)
-      ∙ ap (λ n. n * k) (length-tabulate d (λ i. getD (numbersOf d k start) i 0 + upTo j (addedTo signs above) i))
+      ap length (p .words) ∙ length-wordsOfAll k (raisedTo d (λ i. getD (numbersOf d k start) i 0) (addedTo (numbersOf d k start) above) j)
+      ∙ ap (λ n. n * k) (length-tabulate d (λ i. getD (numbersOf d k start) i 0 + upTo j (addedTo (numbersOf d k start) above) i))
 
   pub raising-long : length values ≡ length start
   raising-long = long-now ∙ sym (p .begun .long)
@@ -175,18 +179,24 @@ module _ {d k : ℕ} {signs : List ℤ} {above start values : List ℕ} {j : ℕ
   -- Value j is as it came.
   part-now : j < d → take k (drop (j * k) values) ≡ wordsOf k (getD (numbersOf d k start) j 0)
   part-now h =
-      let R = raisedTo d (λ i. getD (numbersOf d k start) i 0) (addedTo signs above) j in
+      let R = raisedTo d (λ i. getD (numbersOf d k start) i 0) (addedTo (numbersOf d k start) above) j in
       ap (λ l. take k (drop (j * k) l)) (p .words)
-      ∙ part-of k R j (omega (arith, length-tabulate d (λ i. getD (numbersOf d k start) i 0 + upTo j (addedTo signs above) i)))
+      ∙ part-of k R j (omega (arith, length-tabulate d (λ i. getD (numbersOf d k start) i 0 + upTo j (addedTo (numbersOf d k start) above) i)))
       ∙ ap (wordsOf k)
-      (getD-tabulate d (λ i. getD (numbersOf d k start) i 0 + upTo j (addedTo signs above) i) j 0 h
-      ∙ ap (λ m. getD (numbersOf d k start) j 0 + m) (to-do j (addedTo signs above) j (omega arith))
+      (getD-tabulate d (λ i. getD (numbersOf d k start) i 0 + upTo j (addedTo (numbersOf d k start) above) i) j 0 h
+      ∙ ap (λ m. getD (numbersOf d k start) j 0 + m) (to-do j (addedTo (numbersOf d k start) above) j (omega arith))
       ∙ add-zero (getD (numbersOf d k start) j 0))
 
   number-now : j < d → numberOf (take k (drop (j * k) values)) ≡ getD (numbersOf d k start) j 0
   number-now h =
       ap numberOf (part-now h)
       ∙ numberOf-wordsOf k (getD (numbersOf d k start) j 0) (omega (arith, p .begun .room j h))
+
+  -- Its last digit stands in its first word.
+  pub raising-digit : j < d → getD values (j * k) 0 % 2 ≡ getD (numbersOf d k start) j 0 % 2
+  raising-digit h =
+      ap (λ m. m % 2) (sym (getD-drop (j * k) values 0 0 ∙ ap (λ i. getD values i 0) (add-zero (j * k))))
+      ∙ first-word k (drop (j * k) values) (p .begun .kLow) ∙ ap (λ m. m % 2) (number-now h)
 
   pub raising-room : j < d → OneRaisable k j values
   raising-room h = record {
@@ -196,43 +206,50 @@ module _ {d k : ℕ} {signs : List ℤ} {above start values : List ℕ} {j : ℕ
     room = subst (λ n. n + 1 < 2 ^ (64 * k)) (sym (number-now h)) (p .begun .room j h);
   }
 
+  -- Its first word lies in the buffer.
+  pub raising-word : j < d → (j * k < length values) × (j * k ≤ 80)
+  raising-word h =
+      let r = raising-room h in
+      let few : j ≤ 8 = omega (arith, r .jHigh) in
+      (omega (arith, r .inside, p .begun .kLow), mul-le-mul few (r .kHigh))
+
   -- Value j is done.
   pub raising-next : j < d → (after : List ℕ)
-      → after ≡ raisedOne k j (digit (getD signs j (pos 0))) (getD above j 0) values → Raising d k signs above start after (j + 1)
+      → after ≡ raisedOne k j (getD (numbersOf d k start) j 0 % 2) (getD above j 0) values → Raising d k above start after (j + 1)
   raising-next h after e = record {
     begun = p .begun;
     inside = omega arith;
-    words = e ∙ next (ℕ-discrete (digit (getD signs j (pos 0))) (getD above j 0));
+    words = e ∙ next (ℕ-discrete (getD (numbersOf d k start) j 0 % 2) (getD above j 0));
   }
     where
       n : ℕ → ℕ
       n i = getD (numbersOf d k start) i 0
 
-      next : Dec (digit (getD signs j (pos 0)) ≡ getD above j 0)
-          → raisedOne k j (digit (getD signs j (pos 0))) (getD above j 0) values ≡ wordsOfAll k (raisedTo d n (addedTo signs above) (j + 1))
+      next : Dec (getD (numbersOf d k start) j 0 % 2 ≡ getD above j 0)
+          → raisedOne k j (getD (numbersOf d k start) j 0 % 2) (getD above j 0) values ≡ wordsOfAll k (raisedTo d n (addedTo (numbersOf d k start) above) (j + 1))
       next (yes q) =
-          let z : addedTo signs above j ≡ 0 = omega (arith, p .begun .few j h) in
-          sym (not-raised k j (digit (getD signs j (pos 0))) (getD above j 0) values q)
-          ∙ p .words ∙ ap (wordsOfAll k) (raised-skip d n (addedTo signs above) j z)
+          let z : addedTo (numbersOf d k start) above j ≡ 0 = omega (arith, p .begun .few j h) in
+          sym (not-raised k j (getD (numbersOf d k start) j 0 % 2) (getD above j 0) values q)
+          ∙ p .words ∙ ap (wordsOfAll k) (raised-skip d n (addedTo (numbersOf d k start) above) j z)
       next (no q) =
-          let one : addedTo signs above j ≡ 1 = omega (arith, p .begun .few j h, digit-small (getD signs j (pos 0))) in
-          let R = raisedTo d n (addedTo signs above) j in
-          raised-by k j (digit (getD signs j (pos 0))) (getD above j 0) values q
+          let one : addedTo (numbersOf d k start) above j ≡ 1 = omega (arith, p .begun .few j h) in
+          let R = raisedTo d n (addedTo (numbersOf d k start) above) j in
+          raised-by k j (getD (numbersOf d k start) j 0 % 2) (getD above j 0) values q
           ∙ ap₂ (λ l m. take (j * k) l ++ (wordsOf k (m + 1) ++ drop (j * k + k) l)) (p .words) (number-now h)
-          ∙ part-set k R j (n j + 1) (omega (arith, length-tabulate d (λ i. n i + upTo j (addedTo signs above) i)))
-          ∙ ap (wordsOfAll k) (ap (λ m. set R j (n j + m)) (sym one) ∙ raised-set d n (addedTo signs above) j h)
+          ∙ part-set k R j (n j + 1) (omega (arith, length-tabulate d (λ i. n i + upTo j (addedTo (numbersOf d k start) above) i)))
+          ∙ ap (wordsOfAll k) (ap (λ m. set R j (n j + m)) (sym one) ∙ raised-set d n (addedTo (numbersOf d k start) above) j h)
 
 -- Before the first value.
-pub raising-starts : (d k : ℕ) (signs : List ℤ) (above values : List ℕ) → Raisable d k signs above values
-    → ((i : ℕ) → getD values i 0 < 2 ^ 64) → Raising d k signs above values values 0
-raising-starts d k signs above values p words = record {
+pub raising-starts : (d k : ℕ) (above values : List ℕ) → Raisable d k above values
+    → ((i : ℕ) → getD values i 0 < 2 ^ 64) → Raising d k above values values 0
+raising-starts d k above values p words = record {
   begun = p;
   inside = omega arith;
   words =
       sym
       (ap (wordsOfAll k)
-      (tabulate-same d (λ i. n i + upTo 0 (addedTo signs above) i) n
-      (λ i h. ap (λ m. n i + m) (to-do 0 (addedTo signs above) i (omega arith)) ∙ add-zero (n i))
+      (tabulate-same d (λ i. n i + upTo 0 (addedTo (numbersOf d k values) above) i) n
+      (λ i h. ap (λ m. n i + m) (to-do 0 (addedTo (numbersOf d k values) above) i (omega arith)) ∙ add-zero (n i))
       ∙ all)
       ∙ wordsOfAll-numbersOf d k values (p .long) words);
 }
@@ -244,12 +261,12 @@ raising-starts d k signs above values p words = record {
     all = ap (λ m. tabulate m (λ i. getD (numbersOf d k values) i 0)) (sym (length-numbersOf d k values)) ∙ tabulate-getD (numbersOf d k values) 0
 
 -- After the last.
-pub raising-ends : {d k : ℕ} {signs : List ℤ} {above start values : List ℕ} {j : ℕ} → Raising d k signs above start values j → d ≤ j
-    → values ≡ wordsOfAll k (raised d k signs above start)
+pub raising-ends : {d k : ℕ} {above start values : List ℕ} {j : ℕ} → Raising d k above start values j → d ≤ j
+    → values ≡ wordsOfAll k (raised d k above start)
 unfolding raised
-raising-ends {d} {k} {signs} {above} {start} {values} {j} p h =
+raising-ends {d} {k} {above} {start} {values} {j} p h =
     p .words
     ∙ ap (wordsOfAll k)
-    (tabulate-same d (λ i. getD (numbersOf d k start) i 0 + upTo j (addedTo signs above) i)
-    (λ i. getD (numbersOf d k start) i 0 + addedTo signs above i)
-    (λ i b. ap (λ m. getD (numbersOf d k start) i 0 + m) (done j (addedTo signs above) i (omega (arith, p .inside)))))
+    (tabulate-same d (λ i. getD (numbersOf d k start) i 0 + upTo j (addedTo (numbersOf d k start) above) i)
+    (λ i. getD (numbersOf d k start) i 0 + addedTo (numbersOf d k start) above i)
+    (λ i b. ap (λ m. getD (numbersOf d k start) i 0 + m) (done j (addedTo (numbersOf d k start) above) i (omega (arith, p .inside)))))

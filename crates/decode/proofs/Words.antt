@@ -3,25 +3,18 @@
 use Prim.Native.Nat.{ℕ, zero, suc, _+_, _*_, _%_, _^_, _≤_, _<_}
 use mathlib.Core.Path.{_≡_, refl, sym, ap, subst, _∙_}
 use mathlib.Core.List.{List, [], _∷_}
-use native.Mathlib.Nat.{le-of-suc-le-suc, not-suc-le-zero, mul-add, mul-left-comm, mul-suc, add-mul, zero-mul, one-mul}
+use native.Mathlib.Nat.{le-of-suc-le-suc, not-suc-le-zero, mul-add, mul-left-comm, add-mul, zero-mul, one-mul}
 use native.Mathlib.Decide.{ℕ-discrete}
 use native.Mathlib.Numerals.{add-one}
 use native.Mathlib.Omega.{arith}
 use lib.Arith.{digits-lt}
-use lib.Dec.{T, leb·suc-zero}
 use lib.IntN.{ℤ, pos, negsuc}
-use lib.Signed.{ltZ}
-use mathlib.Core.Bool.{true, false}
 use lib.Seq.{getD-set-same, getD-set-other}
 use lib.ListN.{length, getD, set, length-set}
-use lib.Pow.{pow-add}
 use Rattle.ladder.specs.Inner.Decoding.{digit}
 use Rattle.ladder.specs.Numbers.{numberOf}
+use Rattle.ladder.proofs.Numbers.{pow-words}
 use Rattle.decode.specs.Inner.{stored}
-
--- A power of 64 more bits.
-pub pow-word : (i : ℕ) → 2 ^ (64 * suc i) ≡ 2 ^ 64 * 2 ^ (64 * i)
-pow-word i = ap (λ n. 2 ^ n) (mul-suc 64 i ∙ omega arith) ∙ pow-add 2 64 (64 * i)
 
 -- A store at word i changes the number by what was put there, less what stood there, at the word's weight.
 pub numberOf-set : (ws : List ℕ) (i v : ℕ) → i < length ws
@@ -34,38 +27,18 @@ numberOf-set (w ∷ ws) (suc i) v h =
     let P = 2 ^ (64 * i) in
     let g = getD ws i 0 in
     let e = numberOf-set ws i v (le-of-suc-le-suc h) in
-    let p = pow-word i in
+    let p = pow-words i in
     let left : B * numberOf (set ws i v) + B * (g * P) ≡ B * numberOf ws + B * (v * P) =
     sym (mul-add B (numberOf (set ws i v)) (g * P)) ∙ ap (λ n. B * n) e ∙ mul-add B (numberOf ws) (v * P) in
     let gp : g * 2 ^ (64 * suc i) ≡ B * (g * P) = ap (λ n. g * n) p ∙ mul-left-comm g B P in
     let vp : v * 2 ^ (64 * suc i) ≡ B * (v * P) = ap (λ n. v * n) p ∙ mul-left-comm v B P in
     omega (arith, left, gp, vp)
 
--- A list filled up to j by a rule, and at j: it is filled up to j + 1.
-pub filled-more : (l : List ℕ) (f : ℕ → ℕ) (j v : ℕ) → j < length l → v ≡ f j → ((i : ℕ) → i < j → getD l i 0 ≡ f i)
-    → (i : ℕ) → i < j + 1 → getD (set l j v) i 0 ≡ f i
-filled-more l f j v h e below i b = go (ℕ-discrete i j)
-  where
-    go : Dec (i ≡ j) → getD (set l j v) i 0 ≡ f i
-    go (yes q) = ap (λ k. getD (set l j v) k 0) q ∙ getD-set-same l j v 0 h ∙ e ∙ ap f (sym q)
-    go (no q) = getD-set-other l j i v 0 q ∙ below i (omega arith)
-
 -- A digit is 0 or 1.
 pub digit-small : (s : ℤ) → digit s ≤ 1
 unfolding digit
 digit-small (pos n) = omega arith
 digit-small (negsuc n) = omega arith
-
--- The digit of a sign is 1 where it is below 0.
-pub digit-below : (s : ℤ) → ltZ s (pos 0) ≡ true → 1 ≡ digit s
-unfolding digit
-digit-below (pos n) e = absurd (subst T (sym e ∙ leb·suc-zero n) tt)
-digit-below (negsuc n) e = refl
-
-pub digit-from : (s : ℤ) → ltZ s (pos 0) ≡ false → 0 ≡ digit s
-unfolding digit
-digit-from (pos n) e = refl
-digit-from (negsuc n) e = absurd (subst T e tt)
 
 -- Words of 64 bits stay such under a store of one.
 pub words-set : (l : List ℕ) (i v : ℕ) → i < length l → v < 2 ^ 64 → ((k : ℕ) → getD l k 0 < 2 ^ 64) → (k : ℕ) → getD (set l i v) k 0 < 2 ^ 64
@@ -100,7 +73,7 @@ carry-on ws i next n h words e z inv =
     let put = numberOf-set ws i next h in
     let gone : next * 2 ^ (64 * i) ≡ 0 = ap (λ k. k * 2 ^ (64 * i)) z ∙ zero-mul (2 ^ (64 * i)) in
     let owed : 2 ^ (64 * (i + 1)) ≡ w * 2 ^ (64 * i) + 2 ^ (64 * i) =
-    ap (λ k. 2 ^ (64 * k)) (add-one i) ∙ pow-word i ∙ ap (λ k. k * 2 ^ (64 * i)) (sym top)
+    ap (λ k. 2 ^ (64 * k)) (add-one i) ∙ pow-words i ∙ ap (λ k. k * 2 ^ (64 * i)) (sym top)
     ∙ add-mul w 1 (2 ^ (64 * i)) ∙ ap (λ k. w * 2 ^ (64 * i) + k) (one-mul (2 ^ (64 * i))) in
     omega (arith, put, gone, owed, inv)
 

@@ -1,45 +1,49 @@
 -- What the inner contracts of decode need.
 -- Assumes nothing.
-use Prim.Native.Nat.{ℕ, zero, suc, _+_, _*_, _/_, _%_, _^_, _≤_, _<_}
+use Prim.Native.Nat.{ℕ, zero, suc, pred, _+_, _*_, _/_, _%_, _^_, _≤_, _<_}
 use mathlib.Core.Path.{_≡_}
 use mathlib.Core.Bool.{Bool, cond}
-use mathlib.Core.List.{List, _++_}
+use mathlib.Core.List.{List, _++_, map}
 use lib.Dec.{eqb}
-use lib.IntN.{ℤ, pos}
-use lib.ListN.{length, getD, set, take, drop, replicate}
+use lib.ListN.{length, getD, set, take, drop}
 use Rattle.ladder.specs.Lists.{tabulate}
-use Rattle.ladder.specs.Matrix.{startSigns, orderAfter, signsAfter, Units}
+use Rattle.ladder.specs.Matrix.{orderAfter}
 use Rattle.ladder.specs.Numbers.{numberOf, numbersOf, wordsOf, wordsOfAll, bitsLength, scalarWords, valueWords, bitsAt}
 use Rattle.ladder.specs.Refusals.{sameNumbers}
-use Rattle.ladder.specs.Walk.{Walk, walkOf, orderOf}
-use Rattle.ladder.specs.Inner.Decoding.{digit, walked, walkedEntry}
-use Rattle.walk.specs.Inner.Ready.{Ready}
+use Rattle.ladder.specs.Walk.{Walk, orderOf}
+use Rattle.ladder.specs.Inner.Decoding.{walked, walkedEntry}
+use Rattle.walk.specs.Inner.Ready.{Columns, Ready}
 
 -- The words with word w of each of the first d values, k words each, replaced by the number held for its column.
 unfoldable pub stored : ℕ → ℕ → ℕ → List ℕ → List ℕ → List ℕ
 stored zero k w held values = values
 stored (suc j) k w held values = set (stored j k w held values) (j * k + w) (getD held j 0)
 
--- With `left` digits to come: where a word is full nothing is held, and the words are stored.
-unfoldable pub heldThen : ℕ → List ℕ → List ℕ
-heldThen left more = cond (eqb (left % 64) 0) (replicate 8 0) more
-
+-- With `left` digits to come: where a word is full the held words are stored.
 unfoldable pub storedThen : ℕ → ℕ → ℕ → List ℕ → List ℕ → List ℕ
-storedThen d k left more values = cond (eqb (left % 64) 0) (stored d k (left / 64) more values) values
+storedThen d k left held values = cond (eqb (left % 64) 0) (stored d k (left / 64) held values) values
 
--- What the walk through all l steps asks: the start state of a walk, l in range, and buffers of their lengths.
+-- A word with one digit more at its end: its last digit, turned where the bit is 1. The top digit is lost.
+unfoldable pub pushed : ℕ → ℕ → ℕ
+pushed b word = (2 * word + (word + b) % 2) % 2 ^ 64
+
+-- Each column's word has one digit more, by the bit at the column's place in the order S.
+pub record Pushed (d : ℕ) (S r held after : List ℕ) : Type 0 where
+  pub long : length after ≡ d
+  pub words : (k : ℕ) → k < d → getD after (getD S k 0) 0 ≡ pushed (getD r k 0) (getD held (getD S k 0) 0)
+
+-- What the walk through all l steps asks: a walk state that can be stepped, l in range, and buffers of their lengths.
 pub record AtStart (w : Walk) (l : ℕ) (bytes values : List ℕ) : Type 0 where
   pub ready : Ready w
-  pub start : w ≡ walkOf (w .d) (orderOf w) (startSigns (w .d))
   pub lLow : 1 ≤ l
   pub lHigh : l ≤ 576
   pub bits : length bytes ≡ bitsLength (w .d) l
   pub words : length values ≡ w .d * valueWords l
 
--- What it leaves: the walk state after l steps, and each column's lower number in words.
-pub record Lowered (w : Walk) (l : ℕ) (bytes : List ℕ) (last : Walk) (values : List ℕ) : Type 0 where
-  pub ready : Ready last
-  pub walk : last ≡ walkOf (w .d) (orderAfter (orderOf w) (bitsAt (w .d) bytes) l) (signsAfter (w .d) (orderOf w) (bitsAt (w .d) bytes) l)
+-- What it leaves: the order after l steps, and each column's lower number in words.
+pub record Lowered (w : Walk) (l : ℕ) (bytes order values : List ℕ) : Type 0 where
+  pub columns : Columns (w .d) order
+  pub last : map pred (take (w .d) order) ≡ orderAfter (orderOf w) (bitsAt (w .d) bytes) l
   pub lower : values ≡ wordsOfAll (valueWords l) (tabulate (w .d) (walked (w .d) (orderOf w) (bitsAt (w .d) bytes) l))
 
 -- Value j of k words can take one more.
@@ -55,20 +59,19 @@ raisedOne k j digit above values =
     cond (eqb digit above) values
     (take (j * k) values ++ (wordsOf k (numberOf (take k (drop (j * k) values)) + 1) ++ drop (j * k + k) values))
 
--- What raising asks: d values of k words, each of which can take one more, and a sign and a count for each column.
-pub record Raisable (d k : ℕ) (signs : List ℤ) (above values : List ℕ) : Type 0 where
+-- What raising asks: d values of k words, each of which can take one more, and a count for each column.
+pub record Raisable (d k : ℕ) (above values : List ℕ) : Type 0 where
   pub dHigh : d ≤ 8
   pub kLow : 1 ≤ k
   pub kHigh : k ≤ 10
   pub long : length values ≡ d * k
-  pub units : Units d signs
   pub few : (j : ℕ) → j < d → getD above j 0 ≤ 1
   pub room : (j : ℕ) → j < d → getD (numbersOf d k values) j 0 + 1 < 2 ^ (64 * k)
 
--- The values, each one more where the digit of its sign and the count of its column differ.
-unfoldable pub raised : ℕ → ℕ → List ℤ → List ℕ → List ℕ → List ℕ
-raised d k signs above values =
-    tabulate d (λ j. getD (numbersOf d k values) j 0 + (digit (getD signs j (pos 0)) + getD above j 0) % 2)
+-- The values, each one more where its last digit and the count of its column differ.
+unfoldable pub raised : ℕ → ℕ → List ℕ → List ℕ → List ℕ
+raised d k above values =
+    tabulate d (λ j. getD (numbersOf d k values) j 0 + (getD (numbersOf d k values) j 0 % 2 + getD above j 0) % 2)
 
 -- The entries of row i (from 0) that a walk of l steps from w yields.
 unfoldable pub walkedRow : Walk → ℕ → List ℕ → ℕ → List ℕ

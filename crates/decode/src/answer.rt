@@ -19,11 +19,9 @@ pub fn answer_values(start: Walk, bits: &[u8], l: usize, row: usize, values: &mu
     ensures { λ r. ⌜ now (values .exit) ≡ wordsOfAll (valueWords l) (walkedRow (walkState start) l (now (bits .entry)) row) ⌝ }
 {
     let d = start.d as usize;
-    let last = lower_values(start, bits, l, values);
-    let order = last.order;
-    let signs = last.signs;
+    let order = lower_values(start, bits, l, values);
     let above = columns_above(order, row);
-    raise(values, d, value_words(l), signs, above);
+    raise(values, d, value_words(l), above);
 }
 
 // Whether that row is the scalars; its words are left in `values`.

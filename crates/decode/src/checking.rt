@@ -1,6 +1,6 @@
 // The public call `check`.
 use crate::answer::row_is;
-use encode::scalars::scalar;
+use encode::scalars::scalar_refusal;
 use refuse::OK;
 use refuse::lent_plan;
 use refuse::scalars_length;
@@ -27,7 +27,7 @@ fn check_refusal(d: u64, l: u64, start: &[u8], bits: &[u8], row: u64, scalars: &
     if early != OK {
         return early;
     }
-    scalar(d as usize, l as usize, scalars)
+    scalar_refusal(d as usize, l as usize, scalars)
 }
 
 // Says whether the answer row of the plan's last matrix is the d scalars, lent in ceil(l / 64) words each; no where it refuses.

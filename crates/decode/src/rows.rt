@@ -1,6 +1,5 @@
 // From the lower numbers to the entries of a row: of a number and the next, the one whose parity says whether the column stands
 // above the row.
-use crate::digits::digit;
 use crate::values::increment;
 ghost use Prim.Native.Nat.{ℕ, suc, _+_, _*_, _≤_, _<_};
 ghost use mathlib.Core.Path.{_≡_};
@@ -38,13 +37,14 @@ fn raise_one(values: &mut [u64], k: usize, j: usize, digit: u64, above: u64)
 }
 
 // Adds one to each value that is odd and whose column does not stand above the row, or even and it does.
-pub fn raise(values: &mut [u64], d: usize, k: usize, signs: [i8; 8], above: [u64; 8])
-    requires { ⌜ Raisable d k signs above (now values) ⌝ }
-    ensures { λ r. ⌜ now (values .exit) ≡ wordsOfAll k (raised d k signs above (now (values .entry))) ⌝ }
+pub fn raise(values: &mut [u64], d: usize, k: usize, above: [u64; 8])
+    requires { ⌜ Raisable d k above (now values) ⌝ }
+    ensures { λ r. ⌜ now (values .exit) ≡ wordsOfAll k (raised d k above (now (values .entry))) ⌝ }
 {
     let mut j: usize = 0;
     while j < d {
-        raise_one(values, k, j, digit(signs[j]), above[j]);
+        let digit = values[j * k] % 2;
+        raise_one(values, k, j, digit, above[j]);
         j += 1;
     }
 }

@@ -3,7 +3,7 @@ ghost use Prim.Native.Nat.{_+_, _*_, _/_, _^_, _≤_, _<_};
 ghost use mathlib.Core.Path.{_≡_};
 ghost use lib.ListN.{length};
 ghost use Rattle.ladder.specs.Numbers.{numberOf, wordsOf, valueWords};
-ghost use Rattle.decode.specs.Inner.{stored, heldThen, storedThen};
+ghost use Rattle.decode.specs.Inner.{stored, storedThen};
 
 // The words of one value: floor(l / 64) + 1.
 pub fn value_words(l: usize) -> usize
@@ -12,10 +12,10 @@ pub fn value_words(l: usize) -> usize
     l / 64 + 1
 }
 
-// Word w of each value becomes the number held for its column.
-pub fn store_words(held: [u64; 8], d: usize, k: usize, w: usize, values: &mut [u64])
-    requires { ⌜ (d ≤ 8) × ((k ≤ 10) × ((w < k) × (length (now values) ≡ d * k))) ⌝ }
-    ensures { λ r. ⌜ now (values .exit) ≡ stored d k w held (now (values .entry)) ⌝ }
+// Word w of each value becomes the word held for its column.
+pub fn store_words(held: &[u64], d: usize, k: usize, w: usize, values: &mut [u64])
+    requires { ⌜ (d ≤ 8) × ((k ≤ 10) × ((w < k) × ((length (now held) ≡ d) × (length (now values) ≡ d * k)))) ⌝ }
+    ensures { λ r. ⌜ now (values .exit) ≡ stored d k w (now (held .entry)) (now (values .entry)) ⌝ }
 {
     let mut j: usize = 0;
     while j < d {
@@ -24,16 +24,14 @@ pub fn store_words(held: [u64; 8], d: usize, k: usize, w: usize, values: &mut [u
     }
 }
 
-// Where no digit of the current word is to come, the words are full: they are stored, and none is held. Gives back what is held.
-pub fn store_full(more: [u64; 8], d: usize, k: usize, left: usize, values: &mut [u64]) -> [u64; 8]
-    requires { ⌜ (d ≤ 8) × ((k ≤ 10) × ((left / 64 < k) × (length (now values) ≡ d * k))) ⌝ }
-    ensures { λ r. ⌜ (r ≡ heldThen left more) × (now (values .exit) ≡ storedThen d k left more (now (values .entry))) ⌝ }
+// Where no digit of the current word is to come, the held words are full: they are stored.
+pub fn store_full(held: &[u64], d: usize, k: usize, left: usize, values: &mut [u64])
+    requires { ⌜ (d ≤ 8) × ((k ≤ 10) × ((left / 64 < k) × ((length (now held) ≡ d) × (length (now values) ≡ d * k)))) ⌝ }
+    ensures { λ r. ⌜ now (values .exit) ≡ storedThen d k left (now (held .entry)) (now (values .entry)) ⌝ }
 {
     if left % 64 == 0 {
-        store_words(more, d, k, left / 64, values);
-        return [0u64; 8];
+        store_words(held, d, k, left / 64, values);
     }
-    more
 }
 
 // One more, with the carry as far as it goes.

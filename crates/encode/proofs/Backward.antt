@@ -7,7 +7,7 @@ use native.Mathlib.Nat.{sub-zero, suc-mul, zero-mul, zero-div}
 use native.Mathlib.Numerals.{add-one}
 use native.Mathlib.Omega.{arith}
 use lib.ListN.{length, getD, take, replicate}
-use lib.Seq.{getD-take, drop-length}
+use lib.Seq.{drop-length}
 use lib.Bits.{bitXor}
 use lib.Pow.{pow-pos}
 use Rattle.ladder.specs.Lists.{tabulate, joined}
@@ -22,7 +22,7 @@ use Rattle.encode.specs.declared.packing.Packing.{Packing}
 use Rattle.encode.specs.Inner.Scalars.{Fitting, gathered}
 use Rattle.encode.specs.Inner.Order.{ColumnsIn, dealtBy}
 use Rattle.encode.specs.Inner.Packing.{bitsIn, Open, Room, Put}
-use Rattle.encode.proofs.Dealt.{dealt-gathered}
+use Rattle.encode.proofs.Dealt.{dealt-gathered, arranged-columns}
 use Rattle.encode.proofs.Written.{packed}
 
 -- The bits of m steps, the last ones, are written or held, and the filling zeros after them. `ks` are the scalars, E is the end order.
@@ -84,12 +84,7 @@ module _ {d l : ℕ} {words E : List ℕ} (fit : Fitting d l words) (a : Arrange
   module _ {m : ℕ} {bytes order : List ℕ} {p : Packing} {below : ℕ} (b : Behind d l ks E m bytes order p below) where
     -- The order's places hold columns.
     pub columns : ColumnsIn d order
-    columns = record {
-      dHigh = fit .shaped .dHigh;
-      inside = λ k h.
-          subst (λ j. j < d) (sym (ap (λ S. getD S k 0) (b .arranged)) ∙ getD-take d order k 0 h)
-          (order-to-go l ks a m .inside k h);
-    }
+    columns = arranged-columns d order _ (fit .shaped .dHigh) (b .arranged) (order-to-go l ks a m)
 
     -- The order of all steps is the start order, and all bits are packed.
     pub all-behind-order : l ≤ m → take d order ≡ encodedStart l ks E

@@ -1,15 +1,16 @@
 -- Laws of dealing: each place gets its column's bit, and the bits gathered from the scalars are those that a step deals.
 -- Assumes nothing.
 use Prim.Native.Nat.{ℕ, zero, suc, _+_, _-_, _*_, _/_, _%_, _^_, _≤_, _<_}
-use mathlib.Core.Path.{_≡_, refl, sym, ap, ap₂, _∙_}
+use mathlib.Core.Path.{_≡_, refl, sym, ap, ap₂, subst, _∙_}
 use mathlib.Core.List.{List, [], _∷_, _++_, map, map-append}
 use native.Mathlib.Nat.{not-suc-le-zero, le-of-suc-le-suc, div-one, two-pow-succ}
 use native.Mathlib.Numerals.{add-one}
 use native.Mathlib.Omega.{arith}
 use lib.ListN.{length, getD, take, set, length-map}
-use lib.Seq.{take-suc, take-suc-set, ext-getD}
+use lib.Seq.{take-suc, take-suc-set, getD-take, ext-getD}
 use lib.Bits.{bitXor}
 use Rattle.ladder.specs.Lists.{tabulate}
+use Rattle.ladder.specs.Matrix.{Arrangement}
 use Rattle.ladder.specs.Encoding.{dealt, deal}
 use Rattle.ladder.specs.Walk.{bitsOf}
 use Rattle.ladder.proofs.Lists.{length-tabulate, getD-tabulate, getD-map, map-same}
@@ -75,10 +76,11 @@ eight-is = refl
 pub rising : (d : ℕ) → d ≤ 8 → take d eight ≡ tabulate d (λ j. j)
 rising d h = ap (take d) eight-is ∙ take-tabulate 8 d (λ j. j) h
 
-pub rising-columns : (d : ℕ) → d ≤ 8 → ColumnsIn d eight
-rising-columns d h = record {
+-- The places of an arrangement hold columns.
+pub arranged-columns : (d : ℕ) (order S : List ℕ) → d ≤ 8 → take d order ≡ S → Arrangement d S → ColumnsIn d order
+arranged-columns d order S h e a = record {
   dHigh = h;
-  inside = λ k q. omega (arith, ap (λ s. getD s k 0) eight-is ∙ getD-tabulate 8 (λ j. j) k 0 (omega arith));
+  inside = λ k q. subst (λ j. j < d) (sym (ap (λ s. getD s k 0) e) ∙ getD-take d order k 0 q) (a .inside k q);
 }
 
 -- Dealt by the gathered lowest bits, the columns in number order get the scalars' parities.

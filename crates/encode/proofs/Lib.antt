@@ -5,6 +5,7 @@ pub mod Digits
 pub mod Gathered
 pub mod Dealt
 pub mod Parting
+pub mod Filled
 pub mod Written
 pub mod Backward
 pub mod Judged

@@ -12,6 +12,7 @@ use lib.Pow.{pow-add, shr-lt, shl-exact}
 use Rattle.ladder.specs.Numbers.{bitAt, bytesFor, packBits}
 use Rattle.ladder.specs.Lists.{tabulate}
 use Rattle.ladder.specs.Walk.{bitsOf}
+use Rattle.ladder.proofs.Lists.{getD-zeros}
 use Rattle.ladder.proofs.Bits.{length-packBits, packBits-below, bitAt-packBits, bytes-unique, bitAt-byte}
 use Rattle.encode.specs.declared.packing.Packing.{Packing}
 use Rattle.encode.specs.Inner.Packing.{bitsIn, Room, Put}
@@ -112,12 +113,10 @@ getD-bytes (b ∷ bytes) (suc q) r h =
     ∙ getD-bytes bytes q r h
 
 -- Zeros at the end change no bit.
-getD-zeros : (J : List ℕ) (n i : ℕ) → getD (J ++ replicate n 0) i 0 ≡ getD J i 0
-getD-zeros [] zero i = refl
-getD-zeros [] (suc n) zero = refl
-getD-zeros [] (suc n) (suc i) = getD-zeros [] n i
-getD-zeros (b ∷ J) n zero = refl
-getD-zeros (b ∷ J) n (suc i) = getD-zeros J n i
+getD-filled : (J : List ℕ) (n i : ℕ) → getD (J ++ replicate n 0) i 0 ≡ getD J i 0
+getD-filled [] n i = getD-zeros n i
+getD-filled (b ∷ J) n zero = refl
+getD-filled (b ∷ J) n (suc i) = getD-filled J n i
 
 -- Bytes whose bits are those of a list and filling zeros are the list packed.
 pub packed : (p : Packing) (bytes J : List ℕ) (n : ℕ) → p .at ≡ 0 → p .held ≡ 0 → bitsIn p bytes ≡ J ++ replicate n 0
@@ -137,5 +136,5 @@ packed p bytes J n at held e hb hJ long =
         bitAt-byte bytes (i / 8) (i % 8) (omega arith)
         ∙ sym (getD-bytes bytes (i / 8) (i % 8) (omega arith))
         ∙ ap (λ s. getD s (8 * (i / 8) + i % 8) 0) whole
-        ∙ getD-zeros J n (8 * (i / 8) + i % 8)
+        ∙ getD-filled J n (8 * (i / 8) + i % 8)
         )

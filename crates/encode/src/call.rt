@@ -1,7 +1,7 @@
-// The public call: total on any input, since it judges everything that it was lent before it looks into it.
+// The public call `encode`.
 use crate::order::house_order;
 use crate::scalars::odd_count;
-use crate::scalars::scalar;
+use crate::scalars::scalar_refusal;
 use crate::steps::encode_with;
 use refuse::OK;
 ghost use mathlib.Core.Path.{_≡_};
@@ -28,7 +28,7 @@ fn encode_refusal(d: u64, l: u64, scalars: &[u64], start: &[u8], bits: &[u8]) ->
     if early != OK {
         return early;
     }
-    scalar(d as usize, l as usize, scalars)
+    scalar_refusal(d as usize, l as usize, scalars)
 }
 
 // Writes the start order and the bits of the plan of d scalars of l bits with the house order as end order, and answers its row.

@@ -78,7 +78,7 @@ fn scalars_below(d: usize, l: usize, scalars: &[u64]) -> bool
 }
 
 // Number 4 of the table: a scalar is 2^l or more.
-pub fn scalar(d: usize, l: usize, scalars: &[u64]) -> u64
+pub fn scalar_refusal(d: usize, l: usize, scalars: &[u64]) -> u64
     requires { ⌜ Shaped d l (now scalars) ⌝ }
     ensures { λ r. ⌜ r ≡ scalar l (numbersOf d (scalarWords l) (now (scalars .entry))) ⌝ }
 {

@@ -29,7 +29,7 @@ fn write_start(order: [u8; 8], d: usize, start: &mut [u8])
 }
 
 // Writes the start order and the bits that scalars and an end order give, from the last step to the first. The bits gathered
-// for one step, `above`, are `below` for the next.
+// for one step, `above`, are `below` for the next. The filling bits, 0, stand last, so they are the first that are held.
 pub fn encode_with(
     d: usize,
     l: usize,

@@ -3,7 +3,7 @@
 use Prim.Native.Nat.{ℕ, zero, suc, _+_, _-_, _*_, _/_, _%_, _^_, _≤_, _<_}
 use mathlib.Core.Path.{_≡_, refl, sym, ap, ap₂, _∙_}
 use mathlib.Core.Logic.{_↔_}
-use mathlib.Core.List.{List, [], _∷_, _++_}
+use mathlib.Core.List.{List, _++_}
 use native.Mathlib.Nat.{not-suc-le-zero, div-add-mod, div-div-eq-div-mul, pow-succ', two-pow-succ, zero-mul, suc-mul, mul-le-mul, mul-le-mul-right}
 use native.Mathlib.Decide.{decLt}
 use native.Mathlib.Omega.{arith}
@@ -13,7 +13,7 @@ use lib.Seq.{getD-append-add, getD-drop, ext-getD}
 use Rattle.ladder.specs.Lists.{tabulate, joined}
 use Rattle.ladder.specs.Numbers.{bitAt, byteOf, bytesFor, packBits, bitsAt, bitsLength}
 use Rattle.ladder.specs.Plan.{Plan, stepBits}
-use Rattle.ladder.proofs.Lists.{length-tabulate, getD-tabulate, tabulate-same, tabulate-getD, tabulate-add, length-joined}
+use Rattle.ladder.proofs.Lists.{length-tabulate, getD-tabulate, tabulate-same, tabulate-getD, tabulate-add, append-below, length-joined}
 use Rattle.ladder.proofs.Numbers.{tabulate-below, drop-below}
 
 -- ---- a byte and its bits
@@ -102,12 +102,6 @@ bitAt-packBits bits h n =
     ∙ getD-drop (8 * (n / 8)) bits (n % 8) 0
     ∙ ap (λ i. getD bits i 0) (div-add-mod n 8)
 
--- Two lists of as many bits that are packed alike are the same.
-pub packBits-unique : (a b : List ℕ) → length a ≡ length b → ((i : ℕ) → getD a i 0 < 2) → ((i : ℕ) → getD b i 0 < 2)
-    → packBits a ≡ packBits b → a ≡ b
-packBits-unique a b e ha hb p =
-    ext-getD 0 a b e (λ i l. sym (bitAt-packBits a ha i) ∙ ap (λ bytes. bitAt bytes i) p ∙ bitAt-packBits b hb i)
-
 -- Two bytes with the same bits are the same ..
 same-byte : (a b : List ℕ) (q : ℕ) → getD a q 0 < 256 → getD b q 0 < 256
     → ((r : ℕ) → r < 8 → bitAt a (8 * q + r) ≡ bitAt b (8 * q + r)) → getD a q 0 ≡ getD b q 0
@@ -160,12 +154,6 @@ getD-joined d (suc l) f e s k h g = go (decLt s l) (λ m. getD-joined d l f befo
     go (no m) earlier =
         let last : s ≡ l = omega arith in
         rw (last, ← length-joined d l f before) (getD-append-add (joined l f) (f l) k 0)
-
--- Where the elements of two lists are below a bound, so are those of both.
-append-below : (b : ℕ) (s t : List ℕ) → ((i : ℕ) → getD s i 0 < b) → ((i : ℕ) → getD t i 0 < b) → (i : ℕ) → getD (s ++ t) i 0 < b
-append-below b [] t h g i = g i
-append-below b (a ∷ s) t h g zero = h zero
-append-below b (a ∷ s) t h g (suc i) = append-below b s t (λ j. h (suc j)) g i
 
 -- Where the elements of each list are below a bound, so are those of all.
 pub joined-below : (b l : ℕ) (f : ℕ → List ℕ) → 0 < b → ((s k : ℕ) → getD (f s) k 0 < b) → (i : ℕ) → getD (joined l f) i 0 < b

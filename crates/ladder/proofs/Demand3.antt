@@ -21,7 +21,7 @@ use Rattle.ladder.proofs.Ladder.{state-after, signs-after, entry-bound}
 use Rattle.ladder.proofs.Bits.{length-stepBits, stepBits-below}
 use Rattle.ladder.proofs.Vectors.{vector-small, vector-not-zero, rows-apart, difference-at, sub-le}
 use Rattle.ladder.proofs.Registers.{runs-agree}
-use Rattle.ladder.proofs.Refusals.{Accepted, run-plan}
+use Rattle.ladder.proofs.Refusals.{Accepted, run-accepted-plan}
 
 -- What an addition of a step from matrix B is: two rows, the first above the second, whose sum is the new row; the vector is the
 -- second minus the first, of coefficients -1, 0 and 1 that are not all zero.
@@ -132,5 +132,5 @@ module _ (p : Plan) (ok : Accepted p) where
 pub runs-agree-accepted : (p : Plan) (m : ℕ) (es regs : List ℕ) → runRefusal p m es regs ≡ 0 → ((j : ℕ) → getD es j 0 < 2 ^ 64)
     → (n : ℕ) → differenceRegisters p m es n ≡ plainRegisters p m es n
 runs-agree-accepted p m es regs e words n =
-    let ok = run-plan p m es regs e in
+    let ok = run-accepted-plan p m es regs e in
     runs-in p (ok .0) m es (ok .1 words) n

@@ -14,18 +14,13 @@ use lib.ListN.{length, getD, take, drop, replicate, set, length-take, length-dro
 use lib.Seq.{ext-getD, getD-set-same, getD-set-other, getD-take, getD-drop}
 use Rattle.ladder.specs.Lists.{same, count}
 use Rattle.ladder.specs.Matrix.{Row, Matrix, row, entry, Arrangement, StateMatrix, signOf, signsOf, bump, rowsFrom, startMatrix, startSigns, step, stepOrder, stepSigns, matrixAfter, orderAfter, signsAfter}
-use Rattle.ladder.proofs.Lists.{same-is, same-self, count-append, count-at}
+use Rattle.ladder.proofs.Lists.{getD-zeros, same-is, same-self, count-append, count-at}
 use Rattle.ladder.proofs.Order.{place-of}
 use Rattle.ladder.proofs.Stairs.{Stairs, stairs, from-stairs, nextEven, stair-step, new-order}
 use Rattle.ladder.proofs.Signs.{sign-up, sign-down, length-signsOf, getD-signsOf}
 use Rattle.ladder.proofs.State.{step-state, step-signs}
 
 -- ---- the start matrix
-
-getD-zeros : (n j : ℕ) → getD (replicate n zero) j 0 ≡ 0
-getD-zeros zero j = refl
-getD-zeros (suc n) zero = refl
-getD-zeros (suc n) (suc j) = getD-zeros n j
 
 getD-bump : (u : Row) (i j : ℕ) → j < length u → getD (bump u i) j 0 ≡ getD u j 0 + same i j
 unfolding bump
@@ -230,12 +225,10 @@ module _ {d : ℕ} {S : List ℕ} (a : Arrangement d S) (r : ℕ → List ℕ) (
   signs-after (suc n) =
       step-signs (state-after n) (r n) (long n) ∙ ap (λ s. stepSigns s (orderAfter S r n) (r n)) (signs-after n)
 
-  lower-start : (j : ℕ) → lower d (matrixAfter d S r zero) j ≡ 0
-  unfolding matrixAfter
-  lower-start j = omega (arith, first-row a j)
-
+  -- Before the first step every lower number is 0.
   pub lower-after-zero : (j : ℕ) → lower d (matrixAfter d S r zero) j ≡ 0
-  lower-after-zero = lower-start
+  unfolding matrixAfter
+  lower-after-zero j = omega (arith, first-row a j)
 
   -- The lower number of the column that stands at place k after step n, whose bit is r n's bit k.
   pub lower-after : (n k : ℕ) → k < d → getD (r n) k 0 < 2
@@ -247,7 +240,7 @@ module _ {d : ℕ} {S : List ℕ} (a : Arrangement d S) (r : ℕ → List ℕ) (
 
   -- The lower number after n steps is below 2^n.
   pub lower-bound : ((s k : ℕ) → getD (r s) k 0 < 2) → (n j : ℕ) → j < d → lower d (matrixAfter d S r n) j < 2 ^ n
-  lower-bound small zero j h = omega (arith, lower-start j)
+  lower-bound small zero j h = omega (arith, lower-after-zero j)
   lower-bound small (suc n) j h =
       let p = place-of (state-after (suc n) .order) j h in
       let e = subst

@@ -1,3 +1,4 @@
+-- The theorems over the definitions, and the laws that every crate shares.
 pub mod Lists
 pub mod Numbers
 pub mod Bits

@@ -9,7 +9,7 @@ use native.Mathlib.Nat.{le-of-suc-le-suc, not-suc-le-zero, zero-add, suc-add, ze
 use native.Mathlib.Decide.{ℕ-discrete, decLt}
 use native.Mathlib.Omega.{arith}
 use lib.Dec.{T, eqb, eqb→eq, eqb-refl}
-use lib.ListN.{length, getD, length-append}
+use lib.ListN.{length, getD, replicate, length-append}
 use Rattle.ladder.specs.Lists.{tabulate, joined, same, count, ones, odds}
 
 -- ---- a list made from a rule
@@ -62,7 +62,20 @@ unfolding tabulate
 tabulate-suc zero f = refl
 tabulate-suc (suc n) f = ap (λ rest. f zero ∷ rest) (tabulate-suc n (λ k. f (suc k)))
 
--- ---- elements of a mapped list
+-- ---- elements of a list of zeros, of two lists and of a mapped list
+
+-- Every element of a list of zeros is 0, and past its end too.
+pub getD-zeros : (n j : ℕ) → getD (replicate n zero) j 0 ≡ 0
+getD-zeros zero j = refl
+getD-zeros (suc n) zero = refl
+getD-zeros (suc n) (suc j) = getD-zeros n j
+
+-- Where the elements of two lists are below a bound, so are those of both.
+pub append-below : (b : ℕ) (s t : List ℕ) → ((i : ℕ) → getD s i 0 < b) → ((i : ℕ) → getD t i 0 < b)
+    → (i : ℕ) → getD (s ++ t) i 0 < b
+append-below b [] t h g i = g i
+append-below b (a ∷ s) t h g zero = h zero
+append-below b (a ∷ s) t h g (suc i) = append-below b s t (λ j. h (suc j)) g i
 
 pub getD-map : {A B : Type 0} (f : A → B) (l : List A) (i : ℕ) (z : A) (w : B) → i < length l → getD (map f l) i w ≡ f (getD l i z)
 getD-map f [] i z w h = absurd (not-suc-le-zero h)

@@ -36,7 +36,7 @@ drop-below b k s h i = rw getD-drop (h (k + i))
 -- ---- a number and its words
 
 -- One word more is 64 bits more.
-pow-words : (k : ℕ) → 2 ^ (64 * suc k) ≡ 2 ^ 64 * 2 ^ (64 * k)
+pub pow-words : (k : ℕ) → 2 ^ (64 * suc k) ≡ 2 ^ 64 * 2 ^ (64 * k)
 pow-words k = ap (λ e. 2 ^ e) (omega arith) ∙ pow-add 2 64 (64 * k)
 
 -- The k lowest words are k.

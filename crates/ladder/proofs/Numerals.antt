@@ -12,7 +12,7 @@ use borrow.Author.Tests.{lt-ltb, le-ltb}
 use lib.ListN.{length, getD, length-append, List·getD-append}
 use Rattle.ladder.specs.Lists.{tabulate}
 use Rattle.ladder.specs.Listing.{digitsWithin, digitsOf}
-use Rattle.ladder.proofs.Lists.{length-tabulate, getD-tabulate, tabulate-same, tabulate-suc}
+use Rattle.ladder.proofs.Lists.{length-tabulate, getD-tabulate, tabulate-same, tabulate-suc, append-below}
 
 -- The number that digits stand for in a base, the highest first.
 unfoldable pub valueOf : ℕ → List ℕ → ℕ
@@ -35,11 +35,6 @@ within-more k base n h =
 pub digits-small : (base n : ℕ) → n < base → digitsOf base n ≡ n ∷ []
 unfolding digitsOf
 digits-small base n h = within-small n base n h
-
-below-append : (b : ℕ) (s t : List ℕ) → ((i : ℕ) → getD s i 0 < b) → ((i : ℕ) → getD t i 0 < b) → (i : ℕ) → getD (s ++ t) i 0 < b
-below-append b [] t h g i = g i
-below-append b (a ∷ s) t h g zero = h zero
-below-append b (a ∷ s) t h g (suc i) = below-append b s t (λ j. h (suc j)) g i
 
 below-one : (b x : ℕ) → x < b → (i : ℕ) → getD (x ∷ []) i 0 < b
 below-one b x h zero = h
@@ -102,7 +97,7 @@ module _ (base : ℕ) (two : 2 ≤ base) where
       by-digits (λ n. (i : ℕ) → getD (digitsOf base n) i 0 < base) (λ n h. rw (digits-small base n h) (below-one base n h))
       (λ n h e.
       rw (digits-more n h)
-      (below-append base (digitsOf base (n / base)) (n % base ∷ []) e (below-one base (n % base) (mod-lt n {m = base} (omega arith)))))
+      (append-below base (digitsOf base (n / base)) (n % base ∷ []) e (below-one base (n % base) (mod-lt n {m = base} (omega arith)))))
 
   -- .. there is one at least ..
   pub digits-some : (n : ℕ) → 1 ≤ length (digitsOf base n)
@@ -182,12 +177,6 @@ module _ (base : ℕ) (two : 2 ≤ base) where
       go : Dec (n < base) → length (digitsOf base (n / base)) ≤ suc k → length (digitsOf base n) ≤ suc (suc k)
       go (yes l) rest = omega (arith, ap length (digits-small base n l))
       go (no l) rest = omega (arith, one-more n (omega arith))
-
-  -- A larger number has no fewer digits.
-  pub digits-mono : (m n : ℕ) → m ≤ n → length (digitsOf base m) ≤ length (digitsOf base n)
-  digits-mono m n h =
-      let last : suc (length (digitsOf base n) - 1) ≡ length (digitsOf base n) = omega (arith, digits-some n) in
-      omega (arith, last, digits-length (length (digitsOf base n) - 1) m (rw last (omega (arith, digits-power n))))
 
   fewest : (k n : ℕ) → length (digitsOf base n) ≡ suc k → (k ≡ 0) ⊎ (base ^ k ≤ n)
   fewest zero n e = inl refl

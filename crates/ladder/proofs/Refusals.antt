@@ -183,10 +183,10 @@ accept p ok =
     none-then _ _ ds (none-then _ _ ls (none-then 0 _ refl (none-then _ _ columns row)))
 
 -- A run that is not refused has an accepted plan, and elements that fit.
-pub run-plan : (p : Plan) (m : ℕ) (es regs : List ℕ) → runRefusal p m es regs ≡ 0
+pub run-accepted-plan : (p : Plan) (m : ℕ) (es regs : List ℕ) → runRefusal p m es regs ≡ 0
     → Accepted p × (((j : ℕ) → getD es j 0 < 2 ^ 64) → (j : ℕ) → getD es j 0 ≤ modulus m)
 unfolding runRefusal
-run-plan p m es regs e =
+run-accepted-plan p m es regs e =
     let a = then-none (planRefusal p _) _ e in
     let b = then-none (tooLarge m) _ (a .1) in
     (accepted p _ (a .0), λ words j. omega (arith, elements-below m es (b .1) words j))

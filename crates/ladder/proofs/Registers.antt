@@ -71,11 +71,6 @@ module _ {A : Type 0} {rule : Rule A} {d : ℕ} {value : Row → A} (R : Respect
 
 -- ---- sums of products
 
-sumOf-none : (u : Row) → sumOf u [] ≡ 0
-unfolding sumOf
-sumOf-none [] = refl
-sumOf-none (a ∷ u) = refl
-
 sumOf-addRows : (u v : Row) (es : List ℕ) → sumOf (addRows u v) es ≡ sumOf u es + sumOf v es
 unfolding sumOf addRows
 sumOf-addRows [] v es = omega arith

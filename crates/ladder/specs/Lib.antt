@@ -1,5 +1,5 @@
--- What a reader must believe, in the order of the rules: numbers, the state matrix and its step, plans, encoding, trace,
--- registers, the paused walk, the plan file, refusals, the listing.
+-- What a reader must believe: first the lists that it needs, then in the order of the rules: numbers, the state matrix and its
+-- step, plans, encoding, trace, registers, the paused walk, the plan file, refusals, the listing.
 --
 -- Rows, columns, places, steps and bits of a step are counted from 0 in these files; the rules count them from 1, and so do
 -- the bytes and words that a call gets and gives. Each comment gives the rules' number where the two differ.

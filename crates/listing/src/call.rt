@@ -14,7 +14,7 @@ ghost use mathlib.Core.Path.{_≡_};
 ghost use lib.Dec.{leb};
 ghost use Rattle.ladder.specs.Plan.{planLent};
 ghost use Rattle.ladder.specs.Listing.{planText, valueLine};
-ghost use Rattle.ladder.specs.Refusals.{unless};
+ghost use Rattle.ladder.specs.Refusals.{unless, BIG};
 ghost use Rattle.listing.specs.Inner.{Decodable, Listable, Put};
 ghost use Rattle.listing.specs.Promise.{ListingPromise};
 
@@ -32,7 +32,7 @@ pub struct Listed {
 
 // Number 10: a file too long to be listed.
 fn big(length: usize) -> u64
-    ensures { λ r. ⌜ r ≡ unless (leb length 4096) 10 ⌝ }
+    ensures { λ r. ⌜ r ≡ unless (leb length 4096) BIG ⌝ }
 {
     if length <= LONGEST_FILE { OK } else { BIG }
 }

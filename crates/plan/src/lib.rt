@@ -1,5 +1,6 @@
 // The plan library: every public call, and nothing else. Each takes any input and finishes; it finds bad input itself and answers the
-// refusal number of the table, 0 where nothing is refused.
+// refusal number of the table, 0 where nothing is refused. Two differ: `body` answers no number, its part is empty instead; `listing`
+// refuses only a buffer of another length, since a refused file has a listing too.
 pub use decode::Checked;
 pub use decode::check;
 pub use decode::decode;
@@ -16,5 +17,5 @@ pub use run::difference_run;
 pub use run::plain_run;
 pub use walk::state::Walk;
 pub use walk::step::Stepped;
-pub use walk::trace::TraceAnswer;
+pub use walk::trace::Traced;
 pub use walk::trace::trace;

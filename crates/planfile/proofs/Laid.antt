@@ -74,7 +74,6 @@ module _ (file start bits : List ℕ) (room : length start + length bits < lengt
 
 -- The sizes of what pack accepts.
 pub record Sizes (d l : ℕ) (bits file : List ℕ) : Type 0 where
-  pub product : l * d ≤ 4608
   pub some : 0 < length bits
   pub most : length bits ≤ 576
   pub filled : l * d ≤ 8 * length bits
@@ -89,7 +88,6 @@ module _ {d l : ℕ} {start bits : List ℕ} {row : ℕ} {file : List ℕ} (ok :
       let one = mul-le-mul (ok .lLow) (ok .dLow) in
       let bytes = ok .bitsLong in
       record {
-        product = few;
         some = omega arith;
         most = omega arith;
         filled = omega arith;

@@ -17,7 +17,7 @@ use Rattle.ladder.proofs.AcceptedFiles.{held-shape}
 use Rattle.decode.specs.Promise.{DecodePromise}
 use Rattle.decode.proofs.Unique.{decode-unique}
 use Rattle.walk.specs.Promise.{TracePromise}
-use Rattle.walk.specs.declared.trace.TraceAnswer.{TraceAnswer}
+use Rattle.walk.specs.declared.trace.Traced.{Traced}
 use Rattle.walk.proofs.Unique.{trace-unique}
 use Rattle.run.specs.Promise.{RunPromise, PlainPromise, DifferencePromise}
 use Rattle.run.specs.declared.answer.Ran.{Ran}
@@ -47,7 +47,7 @@ module _ {p q : Plan} (e : SamePlan p q) (shapes : planShape p ≡ planShape q) 
   }
 
   -- .. of trace ..
-  trace-moved : {trace : List ℕ} {r : TraceAnswer} {traceAfter : List ℕ} → TracePromise q trace r traceAfter → TracePromise p trace r traceAfter
+  trace-moved : {trace : List ℕ} {r : Traced} {traceAfter : List ℕ} → TracePromise q trace r traceAfter → TracePromise p trace r traceAfter
   unfolding traceRefusal
   trace-moved {trace} {r} x =
       let same = sym (same-trace p q e) in
@@ -116,7 +116,7 @@ module _ {f g : List ℕ} {u v : Unpacked} (answered : UnpackPromise f u) (answe
   files-decode x y = decode-unique x (decode-moved files-plan shapes y)
 
   -- .. trace does ..
-  pub files-trace : {trace : List ℕ} {r s : TraceAnswer} {traceAfter traceOther : List ℕ} → TracePromise (planIn f) trace r traceAfter
+  pub files-trace : {trace : List ℕ} {r s : Traced} {traceAfter traceOther : List ℕ} → TracePromise (planIn f) trace r traceAfter
       → TracePromise (planIn g) trace s traceOther → (r ≡ s) × (traceAfter ≡ traceOther)
   files-trace x y = trace-unique x (trace-moved files-plan shapes y)
 

@@ -8,7 +8,7 @@ use lib.Dec.{eqb, leb}
 use lib.ListN.{length, take, drop}
 use Rattle.ladder.specs.Numbers.{bitsLength}
 use Rattle.ladder.specs.PlanFile.{dIn, lIn, answerIn, distanceIn, markIn, fileLength}
-use Rattle.ladder.specs.Refusals.{unless, refusing, sameNumbers, unpackRefusal}
+use Rattle.ladder.specs.Refusals.{unless, refusing, TRAILER, sameNumbers, unpackRefusal}
 use Rattle.refuse.specs.Inner.{sized}
 use Rattle.planfile.specs.declared.trailer.Trailer.{Trailer}
 
@@ -23,13 +23,13 @@ pub record FieldsRead (file : List ℕ) (d row l distance : ℕ) : Type 0 where
 
 -- What reading a trailer of a size and a mark says: 9 for a shorter file or another mark, else its fields.
 pub record TrailerRead (file : List ℕ) (size : ℕ) (mark : List ℕ) (t : Trailer) : Type 0 where
-  pub refusal : t .refusal ≡ unless (leb size (length file) && sameNumbers (markIn file) mark) 9
+  pub refusal : t .refusal ≡ unless (leb size (length file) && sameNumbers (markIn file) mark) TRAILER
   pub fields : t .refusal ≡ 0 → FieldsRead file (t .d) (t .row) (t .l) (t .distance)
 
 -- Number 9 of a back distance; the bits are measured by a length that is 0 out of range.
 unfoldable pub distanceJudged : ℕ → ℕ → ℕ → ℕ → ℕ → ℕ
 distanceJudged d l distance size n =
-    unless (eqb distance (d + sized d l (bitsLength d l)) && leb (distance + size) n) 9
+    unless (eqb distance (d + sized d l (bitsLength d l)) && leb (distance + size) n) TRAILER
 
 -- Where the distance is not refused, the start order lies within the file.
 pub record Placed (t : Trailer) (size distance : ℕ) (file : List ℕ) : Type 0 where

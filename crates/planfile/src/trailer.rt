@@ -53,7 +53,7 @@ fn fields(file: &[u8]) -> Trailer
     requires { ⌜ 12 ≤ length (now file) ⌝ }
     ensures { λ t. ⌜ (t .refusal ≡ 0) × FieldsRead (now (file .entry)) (t .d) (t .row) (t .l) (t .distance) ⌝ }
 {
-    let at = file.len() - 12;
+    let at = file.len() - TRAILER_SIZE;
     let low = wide(file[at + 4]) + 256 * wide(file[at + 5]);
     let high = 65536 * wide(file[at + 6]) + 16777216 * wide(file[at + 7]);
     Trailer {

@@ -1,5 +1,5 @@
-// A function for each number of the table that any plan can meet, and the first refusal that applies. Number 4 stands with the scalars, 9
-// with the plan file, 10 with the listing.
+// A function for each number of the table that any plan can meet, and the first refusal that applies. Number 4 stands with the scalars, a
+// walk state's 5 and a step's 3 with the walk, 9 with the plan file, 10 with the listing.
 use crate::elements::all_below;
 use crate::lengths::bits_length;
 use crate::orders::arrangement;
@@ -9,7 +9,7 @@ use crate::ranges::MOST_STEPS;
 use crate::ranges::within;
 ghost use mathlib.Core.Path.{_≡_};
 ghost use lib.Dec.{eqb};
-ghost use Rattle.ladder.specs.Refusals.{_then_, unless, within, dim, len, order, answer, tooLarge, element, planRefusal};
+ghost use Rattle.ladder.specs.Refusals.{_then_, unless, within, SHAPE, dim, len, order, answer, tooLarge, element, planRefusal};
 ghost use Rattle.ladder.specs.Plan.{planLent};
 ghost use Rattle.refuse.specs.Inner.{planRead, lentRefusal};
 
@@ -63,7 +63,7 @@ pub fn len(l: u64) -> u64
 
 // A buffer of `have` elements that must have `want`.
 pub fn shape(have: usize, want: u64) -> u64
-    ensures { λ r. ⌜ r ≡ unless (eqb have want) 3 ⌝ }
+    ensures { λ r. ⌜ r ≡ unless (eqb have want) SHAPE ⌝ }
 {
     if have as u64 == want { OK } else { SHAPE }
 }

@@ -1,11 +1,15 @@
--- Sums and negatives by a modulus: a comparison and a subtraction reduce them.
+-- Sums and negatives by a modulus: a subtraction reduces them.
 -- Assumes nothing.
-use Prim.Native.Nat.{ℕ, zero, suc, _+_, _-_, _*_, _%_, _^_, _≤_, _<_}
-use mathlib.Core.Path.{_≡_, refl, sym, ap, _∙_}
+use Prim.Native.Nat.{ℕ, zero, suc, _+_, _-_, _*_, _/_, _%_, _^_, _≤_, _<_}
+use mathlib.Core.Bool.{true, false}
+use mathlib.Core.Path.{_≡_, refl, sym, ap, subst, _∙_}
 use mathlib.Core.Logic.{_≢_, ⊎-elim}
-use native.Mathlib.Nat.{mod-eq-of-lt, mod-lt, mod-self, zero-mod, zero-mul, one-mul, add-mul-mod-self-right}
+use native.Mathlib.Nat.{mod-eq-of-lt, mod-lt, mod-self, zero-mod, zero-mul, mul-zero, one-mul, add-mul-mod-self-right}
+use native.Mathlib.Decide.{decLt}
 use native.Mathlib.Omega.{arith}
+use lib.Dec.{T}
 use lib.IntN.{ℤ, pos, negsuc}
+use lib.Signed.{ltZ}
 use Rattle.ladder.specs.Matrix.{IsSmall}
 use Rattle.ladder.specs.Registers.{modulus, timesSigned}
 
@@ -35,19 +39,40 @@ element-kept m n h = mod-eq-of-lt h
 
 -- ---- sums
 
-module _ (m a b : ℕ) (some : m ≢ 0) where
-  pub sum-fits : m ≤ 2 ^ 63 → a < modulus m → b < modulus m → a + b < 2 ^ 64
-  sum-fits h l k = omega (arith, modulus-some m some)
+-- What comes back is 0 or the modulus.
+pub back-fits : (m t : ℕ) → m ≤ 2 ^ 63 → t < 2 ^ 64 → t / 2 ^ 63 * m < 2 ^ 64
+back-fits m t h f = go (t / 2 ^ 63) (omega arith)
+  where
+    go : (q : ℕ) → q < 2 → q * m < 2 ^ 64
+    go zero l = omega (arith, zero-mul m)
+    go (suc zero) l = omega (arith, one-mul m)
+    go (suc (suc q)) l = absurd (omega arith)
 
-  pub sum-small : a + b < m → a + b ≡ (a + b) % modulus m
-  sum-small h = sym (element-kept m (a + b) (omega (arith, modulus-some m some)))
+-- t is the wrapped a + b - m: its highest bit is 1 exactly where a + b is less than m, and then m comes back.
+pub sum-reduced : (m a b t r : ℕ) → m ≤ 2 ^ 63 → a < modulus m → b < modulus m → t < 2 ^ 64
+    → (t + m) % 2 ^ 64 ≡ (a + b) % 2 ^ 64 → r ≡ (t + t / 2 ^ 63 * m) % 2 ^ 64 → r ≡ (a + b) % modulus m
+sum-reduced zero a b t r h k l f w o =
+    let M = modulus-zero zero refl in
+    rw M (omega (arith, mul-zero (t / 2 ^ 63)))
+sum-reduced (suc m) a b t r h k l f w o = go (decLt (a + b) (suc m))
+  where
+    M : modulus (suc m) ≡ suc m
+    M = modulus-some (suc m) (λ z. omega arith)
 
-  -- A sum of two elements is less than twice the modulus.
-  pub sum-large : a < modulus m → b < modulus m → m ≤ a + b → a + b - m ≡ (a + b) % modulus m
-  sum-large l k h =
-      let rest : a + b - m < modulus m = omega (arith, modulus-some m some) in
-      let whole : a + b - m + 1 * modulus m ≡ a + b = omega (arith, modulus-some m some) in
-      sym (element-kept m (a + b - m) rest) ∙ sym (add-mul-mod-self-right (a + b - m) 1 (modulus m)) ∙ ap (λ n. n % modulus m) whole
+    go : Dec (a + b < suc m) → r ≡ (a + b) % modulus (suc m)
+    go (yes less) =
+        let top : t / 2 ^ 63 ≡ 1 = omega (arith, M) in
+        let back : t / 2 ^ 63 * suc m ≡ suc m = ap (λ q. q * suc m) top ∙ one-mul (suc m) in
+        let is : r ≡ a + b = omega (arith, M) in
+        is ∙ sym (element-kept (suc m) (a + b) (omega (arith, M)))
+    go (no more) =
+        let top : t / 2 ^ 63 ≡ 0 = omega (arith, M) in
+        let none : t / 2 ^ 63 * suc m ≡ 0 = ap (λ q. q * suc m) top ∙ zero-mul (suc m) in
+        let is : r ≡ a + b - suc m = omega (arith, M) in
+        let rest : a + b - suc m < modulus (suc m) = omega (arith, M) in
+        let whole : a + b - suc m + 1 * modulus (suc m) ≡ a + b = omega (arith, M) in
+        is ∙ sym (element-kept (suc m) (a + b - suc m) rest) ∙ sym (add-mul-mod-self-right (a + b - suc m) 1 (modulus (suc m)))
+        ∙ ap (λ n. n % modulus (suc m)) whole
 
 -- ---- negatives
 
@@ -70,15 +95,30 @@ negative-some (suc m) e r f n l s w =
 -- ---- an element times -1, 0 or 1
 
 module _ (m e : ℕ) (s : ℤ) where
-  pub times-one : s ≡ pos 1 → e < modulus m → e ≡ timesSigned m s e % modulus m
+  pub times-none : s ≡ pos 0 → 0 ≡ timesSigned m s e % modulus m
+  unfolding timesSigned
+  times-none q = rw q (sym (ap (λ i. i % modulus m) (zero-mul e) ∙ zero-mod (modulus m)))
+
+  times-one : s ≡ pos 1 → e < modulus m → e ≡ timesSigned m s e % modulus m
   unfolding timesSigned
   times-one q h = rw q (sym (ap (λ n. n % modulus m) (one-mul e) ∙ element-kept m e h))
 
-  pub times-minus : s ≡ negsuc 0 → (r : ℕ) → r ≡ (modulus m - e) % modulus m → r ≡ timesSigned m s e % modulus m
+  times-minus : s ≡ negsuc 0 → (r : ℕ) → r ≡ (modulus m - e) % modulus m → r ≡ timesSigned m s e % modulus m
   unfolding timesSigned
   times-minus q r f = rw q (f ∙ ap (λ n. n % modulus m) (sym (one-mul (modulus m - e))))
 
-  pub times-none : IsSmall s → (s ≡ pos 1 → ⊥) → (s ≡ negsuc 0 → ⊥) → 0 ≡ timesSigned m s e % modulus m
-  unfolding timesSigned
-  times-none small n k =
-      ⊎-elim (λ q. rw q (sym (ap (λ i. i % modulus m) (zero-mul e) ∙ zero-mod (modulus m)))) (λ u. absurd (⊎-elim n k u)) small
+  -- Below 0 it is -1 ..
+  pub times-below : IsSmall s → ltZ s (pos 0) ≡ true → (r : ℕ) → r ≡ (modulus m - e) % modulus m → r ≡ timesSigned m s e % modulus m
+  times-below small b r f =
+      ⊎-elim (λ q. absurd (other q tt)) (λ u. ⊎-elim (λ q. absurd (other q tt)) (λ q. times-minus q r f) u) small
+    where
+      other : {z : ℤ} → s ≡ z → T true → T (ltZ z (pos 0))
+      other q = subst T (sym b ∙ ap (λ z. ltZ z (pos 0)) q)
+
+  -- .. and else 1, where it is not 0.
+  pub times-above : IsSmall s → ltZ s (pos 0) ≡ false → (s ≡ pos 0 → ⊥) → e < modulus m → e ≡ timesSigned m s e % modulus m
+  times-above small b n h =
+      ⊎-elim (λ q. absurd (n q)) (λ u. ⊎-elim (λ q. times-one q h) (λ q. absurd (other q tt)) u) small
+    where
+      other : {z : ℤ} → s ≡ z → T (ltZ z (pos 0)) → T false
+      other q = subst T (sym (ap (λ z. ltZ z (pos 0)) q) ∙ b)

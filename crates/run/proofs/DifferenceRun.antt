@@ -67,19 +67,17 @@ module _ {m : ℕ} {w₀ : Walk} {l : ℕ} {bytes elements start : List ℕ} (as
     pub bits-there : s < l → (d ≤ 8) × ((s < 576) × (s * d + d ≤ 8 * length bytes))
     bits-there h = (asks .ready .high, (omega (arith, asks .lHigh), bits-room d l s (length bytes) h (asks .bits)))
 
-    module _ (n : ℕ) (next : Walk) (e : next ≡ stepWalk w n) where
-      -- What the step asks.
-      pub step-asks : DifferenceStep m d (w .signs) (next .order) elements regs
-      step-asks = record {
-        dHigh = asks .ready .high;
-        mHigh = asks .mHigh;
-        units = subst (λ i. Units i (w .signs)) width (t .ready .signs);
-        columns = subst (λ i. Columns i (next .order)) width (columns-next (t .ready) n next e);
-        long = asks .long;
-        below = asks .below;
-        registers = t .below;
-      }
+    -- What the step asks.
+    pub step-asks : DifferenceStep m w elements regs
+    step-asks = record {
+      ready = t .ready;
+      mHigh = asks .mHigh;
+      long = asks .long ∙ sym width;
+      below = subst (λ i. Elements m i elements) (sym width) (asks .below);
+      registers = subst (λ i. Elements m (suc i) regs) (sym width) (t .below);
+    }
 
+    module _ (n : ℕ) (next : Walk) (e : next ≡ stepWalk w n) where
       -- The step's entries, by the arrays before and after it.
       abbrev entries : List Entry
       entries = walkBlock d (take d (w .signs)) (map pred (take d (next .order))) (bitsOf d n)
@@ -106,11 +104,11 @@ module _ {m : ℕ} {w₀ : Walk} {l : ℕ} {bytes elements start : List ℕ} (as
             ∙ walk-block (stairs-after arranged r (length-bitsAt d bytes) s) (r s) (length-bitsAt d bytes s)
 
         -- One step more, with its registers.
-        pub running-next : s < l → (new : List ℕ)
+        running-more : s < l → (new : List ℕ)
             → take (suc d) new ≡ map (differenceOf m elements (take (suc d) regs)) entries
             → DifferenceRunning m w₀ l bytes elements start next new (s + 1)
         unfolding registersAfter
-        running-next h new f = rw (add-one s) record {
+        running-more h new f = rw (add-one s) record {
           within = h;
           ready = subst Ready (sym e) (ready-step (t .ready) n);
           walk = walk-next;
@@ -121,6 +119,19 @@ module _ {m : ℕ} {w₀ : Walk} {l : ℕ} {bytes elements start : List ℕ} (as
               ∙ block-registers m elements d (matrixAfter d S r s) (take (suc d) regs) (r s)
               ∙ ap (λ q. stepRegisters (differenceRule m elements) d (matrixAfter d S r s) q (r s)) (t .registers);
         }
+
+        pub running-next : s < l → (new : List ℕ)
+            → take (suc (w .d)) new
+            ≡ map (differenceOf m elements (take (suc (w .d)) regs))
+            (walkBlock (w .d) (take (w .d) (w .signs)) (map pred (take (w .d) (next .order))) (bitsOf (w .d) n))
+            → DifferenceRunning m w₀ l bytes elements start next new (s + 1)
+        running-next h new f =
+            running-more h new
+            (subst
+            (λ i. take (suc i) new
+            ≡ map (differenceOf m elements (take (suc i) regs))
+            (walkBlock i (take i (w .signs)) (map pred (take i (next .order))) (bitsOf i n)))
+            width f)
 
     -- No step left.
     pub running-end : l ≤ s

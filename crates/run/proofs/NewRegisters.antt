@@ -1,6 +1,6 @@
 -- The new registers of a step as a loop of the difference run makes them: behind those that are made, those of the additions that are left.
 -- Assumes nothing.
-use Prim.Native.Nat.{ℕ, suc, pred, _+_, _-_, _%_, _≤_, _<_}
+use Prim.Native.Nat.{ℕ, suc, pred, _+_, _-_, _%_, _^_, _≤_, _<_}
 use mathlib.Core.Path.{_≡_, refl, sym, ap, ap₂, _∙_}
 use mathlib.Core.Logic.{inl, inr}
 use mathlib.Core.List.{List, [], _∷_, _++_, map, append-assoc, append-nil}
@@ -11,16 +11,27 @@ use lib.IntN.{ℤ, pos}
 use lib.ListN.{length, getD, take, drop, set, replicate, length-set, getD-replicate}
 use lib.Seq.{getD-take, getD-set-same, getD-set-other, take-suc-set}
 use Rattle.ladder.specs.Lists.{ones}
-use Rattle.ladder.specs.Matrix.{IsSmall}
+use Rattle.ladder.specs.Matrix.{IsSmall, Units}
 use Rattle.ladder.specs.Registers.{modulus, differenceAdd}
 use Rattle.ladder.specs.Trace.{Entry}
 use Rattle.ladder.specs.Walk.{bitsOf}
+use Rattle.walk.specs.Inner.Ready.{Columns}
 use Rattle.walk.specs.Inner.WalkTrace.{walkBlock}
 use Rattle.walk.proofs.Additions.{entryAt, rest, more, rest-next, rest-none, block-rest}
 use Rattle.walk.proofs.StepBits.{ones-left, ones-room}
 use Rattle.walk.proofs.Turning.{column-at}
-use Rattle.run.specs.Inner.{DifferenceAdd, DifferenceStep, differenceOf}
+use Rattle.run.specs.Inner.{Elements, DifferenceAdd, differenceOf}
 use Rattle.run.proofs.Differences.{doubled-zeros}
+
+-- What the additions rest on: the signs before the step, the order after it, and registers and elements that are elements.
+pub record Additions (m d : ℕ) (signs : List ℤ) (order elements old : List ℕ) : Type 0 where
+  pub dHigh : d ≤ 8
+  pub mHigh : m ≤ 2 ^ 63
+  pub units : Units d signs
+  pub columns : Columns d order
+  pub long : length elements ≡ d
+  pub below : Elements m d elements
+  pub registers : Elements m (suc d) old
 
 -- After k additions: the registers made, and behind them those of the additions that are left, are the step's registers.
 pub record Making (m d : ℕ) (signs : List ℤ) (order : List ℕ) (n : ℕ) (elements old new : List ℕ) (v : List ℤ) (x k : ℕ) : Type 0 where
@@ -32,7 +43,7 @@ pub record Making (m d : ℕ) (signs : List ℤ) (order : List ℕ) (n : ℕ) (e
   pub done : take (suc k) new ++ map (differenceOf m elements (take (suc d) old)) (rest d signs order n v x k)
       ≡ map (differenceOf m elements (take (suc d) old)) (walkBlock d (take d signs) (map pred (take d order)) (bitsOf d n))
 
-module _ {m d : ℕ} {signs : List ℤ} {order elements old : List ℕ} (asks : DifferenceStep m d signs order elements old) (n : ℕ) where
+module _ {m d : ℕ} {signs : List ℤ} {order elements old : List ℕ} (asks : Additions m d signs order elements old) (n : ℕ) where
   abbrev register : Entry → ℕ
   register = differenceOf m elements (take (suc d) old)
 

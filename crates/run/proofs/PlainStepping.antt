@@ -1,70 +1,108 @@
--- The registers of the plain run as loops make them: a step's, pair by pair, and those of all steps, step by step.
+-- The registers of the plain run as loops make them: a step's, one by one, and those of all steps, step by step.
 -- Assumes nothing.
-use Prim.Native.Nat.{ℕ, suc, _+_, _%_, _^_, _≤_, _<_}
+use Prim.Native.Nat.{ℕ, zero, suc, _+_, _%_, _≤_, _<_}
 use mathlib.Core.Path.{_≡_, refl, sym, ap, ap₂, subst, _∙_}
-use mathlib.Core.List.{List, [], _∷_, _++_, map}
+use mathlib.Core.List.{List, [], _∷_, _++_, map, append-nil}
+use native.Mathlib.Nat.{add-zero}
 use native.Mathlib.Numerals.{add-one}
 use native.Mathlib.Omega.{arith}
-use lib.ListN.{length, getD, take, set, replicate, length-set}
-use lib.Seq.{take-suc-set, getD-take}
+use lib.ListN.{length, getD, take, drop, set, replicate, length-set}
+use lib.Seq.{append-snoc, take-suc-set, getD-take}
 use Rattle.run.proofs.ByModulus.{modulus-positive, below-modulus}
-use Rattle.ladder.specs.Lists.{tabulate}
-use Rattle.ladder.specs.Matrix.{Matrix, matrixAfter}
+use Rattle.ladder.specs.Lists.{ones}
+use Rattle.ladder.specs.Matrix.{Pair, Matrix, matrixAfter, pairsFrom, additions}
 use Rattle.ladder.specs.Numbers.{bitsAt}
 use Rattle.ladder.specs.Registers.{modulus, plainRule, stepRegisters, registersAfter}
 use Rattle.ladder.specs.Trace.{operations}
 use Rattle.ladder.specs.Walk.{bitsOf}
-use Rattle.ladder.proofs.Lists.{getD-tabulate, map-tabulate, tabulate-suc}
-use Rattle.ladder.proofs.Numbers.{tabulate-below}
-use Rattle.ladder.proofs.Step.{noPair}
-use Rattle.ladder.proofs.Walk.{length-bitsOf}
 use Rattle.walk.specs.Inner.ReadBits.{ReadBits}
-use Rattle.run.specs.Inner.{Elements, PlainStep, PlainSteps, pairsIn, plainSum}
-use Rattle.run.specs.declared.pairs.Pairs.{Pairs}
-use Rattle.run.proofs.Pairing.{pairAt, operations-inside}
+use Rattle.walk.proofs.Additions.{pairs-next}
+use Rattle.walk.proofs.StepBits.{bit-below, bits-left, no-bits-left, ones-left, ones-room}
+use Rattle.run.specs.Inner.{Elements, PlainStep, PlainSteps, plainSum}
 
 -- ---- one step
 
--- The first i registers are the sums of their pairs.
-pub record Summing (m d : ℕ) (xs ys old new : List ℕ) (i : ℕ) : Type 0 where
-  pub within : i ≤ suc d
-  pub wide : length new ≡ 9
-  pub done : take i new ≡ tabulate i (λ j. plainSum m (take (suc d) old) (pairAt xs ys j))
+-- After k bits: the registers made, and behind them those of the additions that are left, are the step's registers.
+pub record Summing (m d n : ℕ) (old new : List ℕ) (x k : ℕ) : Type 0 where
+  pub within : k ≤ d
+  pub left : x ≡ ones (drop k (bitsOf d n))
+  pub nine : length new ≡ 9
+  pub done : take (suc k) new ++ map (plainSum m (take (suc d) old)) (pairsFrom x (x + k) (drop k (bitsOf d n)))
+      ≡ map (plainSum m (take (suc d) old)) (operations (bitsOf d n))
 
-module _ (m d : ℕ) (xs ys old : List ℕ) where
-  pub summing-start : Summing m d xs ys old (replicate 9 0) 0
-  unfolding tabulate
-  summing-start = record { within = omega arith; wide = refl; done = refl }
+module _ {m d : ℕ} {old : List ℕ} (asks : PlainStep m d old) (n : ℕ) where
+  abbrev made : Pair → ℕ
+  made = plainSum m (take (suc d) old)
 
-  -- One register more.
-  pub summing-next : {new : List ℕ} {i : ℕ} (s : Summing m d xs ys old new i) → d ≤ 8 → i ≤ d → getD xs i 0 ≤ d → getD ys i 0 ≤ d
-      → (sum : ℕ) → sum ≡ (getD old (getD xs i 0) 0 + getD old (getD ys i 0) 0) % modulus m
-      → Summing m d xs ys old (set new i sum) (i + 1)
+  -- The sum of two old registers that there are.
+  made-at : (x y : ℕ) → x ≤ d → y ≤ d → made (record { x = x; y = y }) ≡ (getD old x 0 + getD old y 0) % modulus m
   unfolding plainSum
-  summing-next {new} {i} s small h x y sum e = record {
-    within = omega arith;
-    wide = length-set new i sum ∙ s .wide;
-    done =
-        rw add-one
-        (take-suc-set new i sum (omega (arith, s .wide))
-        ∙ ap₂ (λ l a. l ++ (a ∷ [])) (s .done)
-        (e ∙ ap₂ (λ a b. (a + b) % modulus m)
-        (sym (getD-take (suc d) old (getD xs i 0) 0 (omega arith)))
-        (sym (getD-take (suc d) old (getD ys i 0) 0 (omega arith))))
-        ∙ sym (tabulate-suc i (λ j. plainSum m (take (suc d) old) (pairAt xs ys j))));
-  }
+  made-at x y h k =
+      ap₂ (λ a b. (a + b) % modulus m) (getD-take (suc d) old x 0 (omega arith)) (getD-take (suc d) old y 0 (omega arith))
 
--- All of them.
-pub summing-end : {m d : ℕ} {pairs : Pairs} {old new : List ℕ} {i : ℕ} → Summing m d (pairs .x) (pairs .y) old new i → d < i
-    → take (suc d) new ≡ map (plainSum m (take (suc d) old)) (pairsIn d pairs)
-unfolding pairsIn
-summing-end {m} {d} {pairs} {old} {new} {i} s h =
-    let over : suc d ≡ i = omega (arith, s .within) in
-    let made = plainSum m (take (suc d) old) in
-    ap (λ k. take k new) over
-    ∙ s .done
-    ∙ ap (λ k. tabulate k (λ j. made (pairAt (pairs .x) (pairs .y) j))) (sym over)
-    ∙ sym (map-tabulate made (suc d) (pairAt (pairs .x) (pairs .y)))
+  -- The row that is doubled is a row, and its register an element.
+  pub doubled-room : (x : ℕ) → x ≡ ones (bitsOf d n) → (x ≤ d) × (getD old x 0 < modulus m)
+  doubled-room x e =
+      let h : x ≤ d = omega (arith, ones-room d n 0 (omega arith)) in
+      (h, asks .below x (omega arith))
+
+  pub summing-start : (x : ℕ) → x ≡ ones (bitsOf d n) → (a : ℕ) → a ≡ (getD old x 0 + getD old x 0) % modulus m
+      → Summing m d n old (set (replicate 9 0) 0 a) x 0
+  unfolding operations additions
+  summing-start x e a f =
+      let h = doubled-room x e .0 in
+      record {
+        within = omega arith;
+        left = e;
+        nine = refl;
+        done =
+            ap (λ b. b ∷ map made (pairsFrom x (x + 0) (bitsOf d n))) (f ∙ sym (made-at x x h h))
+            ∙ ap₂ (λ i j. made (record { x = i; y = i }) ∷ map made (pairsFrom i j (bitsOf d n))) e (add-zero x ∙ e);
+      }
+
+  module _ {new : List ℕ} {x k : ℕ} (s : Summing m d n old new x k) (h : k < d) where
+    -- Bit k is among the ones that are left, and row y stays inside.
+    pub summing-room : (getD (bitsOf d n) k 0 ≤ x) × (x + k < d + getD (bitsOf d n) k 0)
+    summing-room =
+        let left = ones-left d n k h in
+        let room = ones-room d n (k + 1) (omega arith) in
+        (omega (arith, s .left), omega (arith, s .left))
+
+    -- One addition more.
+    pub summing-next : (x' : ℕ) → x ≡ getD (bitsOf d n) k 0 + x'
+        → (a : ℕ) → a ≡ (getD old x' 0 + getD old (x' + (k + 1)) 0) % modulus m
+        → Summing m d n old (set new (k + 1) a) x' (k + 1)
+    summing-next x' e a f =
+        let b = getD (bitsOf d n) k 0 in
+        let later = pairsFrom x' (x' + suc k) (drop (suc k) (bitsOf d n)) in
+        let sum : a ≡ made (record { x = x'; y = x' + suc k }) =
+        f ∙ ap (λ i. (getD old x' 0 + getD old (x' + i) 0) % modulus m) (add-one k)
+        ∙ sym (made-at x' (x' + suc k) (omega (arith, summing-room)) (omega (arith, summing-room))) in
+        record {
+          within = omega arith;
+          left = omega (arith, s .left, ones-left d n k h);
+          nine = length-set new (k + 1) a ∙ s .nine;
+          done =
+              rw (add-one k)
+              (ap (λ t. t ++ map made later) (take-suc-set new (suc k) a (omega (arith, s .nine, asks .dHigh)))
+              ∙ append-snoc (take (suc k) new) a (map made later)
+              ∙ ap (λ c. take (suc k) new ++ (c ∷ map made later)) sum
+              ∙ sym (ap (λ ps. take (suc k) new ++ map made ps)
+              (ap (pairsFrom x (x + k)) (bits-left d n k h)
+              ∙ pairs-next b x x' k (drop (suc k) (bitsOf d n)) (bit-below d n k) e))
+              ∙ s .done);
+        }
+
+  -- No addition left.
+  pub summing-end : {new : List ℕ} {x k : ℕ} → Summing m d n old new x k → d ≤ k
+      → take (suc d) new ≡ map (plainSum m (take (suc d) old)) (operations (bitsOf d n))
+  unfolding pairsFrom
+  summing-end {new} {x} {k} s h =
+      let all : d ≡ k = omega (arith, s .within) in
+      ap (λ i. take (suc i) new) all
+      ∙ sym (append-nil (take (suc k) new))
+      ∙ sym (ap (λ r. take (suc k) new ++ map made (pairsFrom x (x + k) r)) (no-bits-left d n k h))
+      ∙ s .done
 
 -- The sums of a step's operations are its registers, whatever the matrix.
 pub sums-are-registers : (m d : ℕ) (B : Matrix) (regs r : List ℕ)
@@ -73,34 +111,11 @@ unfolding plainSum operations stepRegisters plainRule
 sums-are-registers m d B regs r = refl
 
 -- Each is an element.
-pub sums-below : (m d : ℕ) (pairs : Pairs) (regs new : List ℕ) → take (suc d) new ≡ map (plainSum m regs) (pairsIn d pairs)
-    → Elements m (suc d) new
-unfolding pairsIn plainSum
-sums-below m d pairs regs new e i h =
-    let made = plainSum m regs in
-    let each = e ∙ map-tabulate made (suc d) (pairAt (pairs .x) (pairs .y)) in
-    subst (λ a. a < modulus m) (sym (ap (λ l. getD l i 0) each) ∙ getD-take (suc d) new i 0 h)
-    (tabulate-below (modulus m) (suc d) (λ j. made (pairAt (pairs .x) (pairs .y) j)) (modulus-positive m)
-    (λ k l. below-modulus m _) i)
-
--- The pairs of a step name rows that there are, so that a step can be made by them.
-pub can-step : {m d : ℕ} (n : ℕ) {pairs : Pairs} {regs : List ℕ} → d ≤ 8 → m ≤ 2 ^ 63 → Elements m (suc d) regs
-    → pairsIn d pairs ≡ operations (bitsOf d n) → PlainStep m d pairs regs
-unfolding pairsIn
-can-step {m} {d} n {pairs} small high below e = record {
-  dHigh = small;
-  mHigh = high;
-  xInside = λ i h. rows i h .0;
-  yInside = λ i h. rows i h .1;
-  below = below;
-}
-  where
-    rows : (i : ℕ) → i ≤ d → (getD (pairs .x) i 0 ≤ d) × (getD (pairs .y) i 0 ≤ d)
-    rows i h =
-        let at = sym (getD-tabulate (suc d) (pairAt (pairs .x) (pairs .y)) i noPair (omega arith)) ∙ ap (λ l. getD l i noPair) e in
-        let long = length-bitsOf d n in
-        let room = operations-inside (bitsOf d n) i (omega arith) in
-        (omega (arith, ap (λ p. p .x) at, room .0), omega (arith, ap (λ p. p .y) at, room .1))
+sums-below : (m : ℕ) (regs : List ℕ) (pairs : List Pair) (i : ℕ) → getD (map (plainSum m regs) pairs) i 0 < modulus m
+unfolding plainSum
+sums-below m regs [] i = modulus-positive m
+sums-below m regs (p ∷ pairs) zero = below-modulus m _
+sums-below m regs (p ∷ pairs) (suc i) = sums-below m regs pairs i
 
 -- ---- all steps
 
@@ -117,15 +132,16 @@ running-start asks = record { within = omega arith; below = asks .below; done = 
 -- One step more.
 pub running-next : {m d l : ℕ} {bytes start regs : List ℕ} {s : ℕ} → PlainRunning m d l bytes start regs s → s < l
     → (n : ℕ) → ReadBits d s bytes n
-    → (pairs : Pairs) → pairsIn d pairs ≡ operations (bitsOf d n)
-    → (next : List ℕ) → take (suc d) next ≡ map (plainSum m (take (suc d) regs)) (pairsIn d pairs)
+    → (next : List ℕ) → take (suc d) next ≡ map (plainSum m (take (suc d) regs)) (operations (bitsOf d n))
     → PlainRunning m d l bytes start next (s + 1)
 unfolding registersAfter
-running-next {m} {d} {l} {bytes} {start} {regs} {s} t h n read pairs e next o = rw add-one record {
+running-next {m} {d} {l} {bytes} {start} {regs} {s} t h n read next o = rw add-one record {
   within = h;
-  below = sums-below m d pairs (take (suc d) regs) next o;
+  below = λ i k.
+      subst (λ a. a < modulus m) (sym (ap (λ q. getD q i 0) o) ∙ getD-take (suc d) next i 0 k)
+      (sums-below m (take (suc d) regs) (operations (bitsOf d n)) i);
   done = λ S.
-      o ∙ ap (map (plainSum m (take (suc d) regs))) (e ∙ ap operations (read .bits))
+      o ∙ ap (λ b. map (plainSum m (take (suc d) regs)) (operations b)) (read .bits)
       ∙ sums-are-registers m d (matrixAfter d S (bitsAt d bytes) s) (take (suc d) regs) (bitsAt d bytes s)
       ∙ ap (λ q. stepRegisters (plainRule m) d (matrixAfter d S (bitsAt d bytes) s) q (bitsAt d bytes s)) (t .done S);
 }

@@ -20,7 +20,7 @@ use Rattle.encode.proofs.Promised.{written, encode-plan-ok, encode-decodes}
 use Rattle.decode.specs.Promise.{DecodePromise}
 use Rattle.decode.proofs.Promised.{decode-accepted}
 use Rattle.walk.specs.Promise.{TracePromise}
-use Rattle.walk.specs.declared.trace.TraceAnswer.{TraceAnswer}
+use Rattle.walk.specs.declared.trace.Traced.{Traced}
 use Rattle.walk.proofs.Promised.{trace-counts}
 use Rattle.run.specs.declared.answer.Ran.{Ran}
 use Rattle.run.specs.Promise.{PlainPromise, DifferencePromise}
@@ -101,7 +101,7 @@ module _ {p : Plan} {m : ℕ} {elements registers : List ℕ} {r : Ran} {registe
       promise .additions-are ∙ refusing-no _ _ _ run-accepted ∙ trace-additions p,
     )
 
-    pub run-traced : {trace : List ℕ} {t : TraceAnswer} {traceAfter : List ℕ} → TracePromise p trace t traceAfter
+    pub run-traced : {trace : List ℕ} {t : Traced} {traceAfter : List ℕ} → TracePromise p trace t traceAfter
         → length trace ≡ traceLength (p .d) (p .l) → (r .doublings ≡ t .doublings) × (r .additions ≡ t .additions)
     run-traced traced long =
         let n = trace-counts traced (record { plan = ok .plan; traceLong = long }) in

@@ -5,14 +5,12 @@ use mathlib.Core.Path.{_≡_}
 use mathlib.Core.List.{List}
 use lib.IntN.{ℤ, pos}
 use lib.ListN.{length, getD}
-use Rattle.ladder.specs.Lists.{tabulate}
-use Rattle.ladder.specs.Matrix.{OrderOk, Pair, IsSmall, Units, startSigns}
+use Rattle.ladder.specs.Matrix.{OrderOk, Pair, IsSmall, startSigns}
 use Rattle.ladder.specs.Numbers.{bitsLength}
 use Rattle.ladder.specs.Registers.{modulus, differenceAdd}
 use Rattle.ladder.specs.Trace.{Entry}
 use Rattle.ladder.specs.Walk.{Walk, walkOf, orderOf}
-use Rattle.walk.specs.Inner.Ready.{Columns, Ready}
-use Rattle.run.specs.declared.pairs.Pairs.{Pairs}
+use Rattle.walk.specs.Inner.Ready.{Ready}
 
 -- The first n of some words are elements of the modulus.
 abbrev pub Elements : ℕ → ℕ → List ℕ → Type 0
@@ -20,20 +18,14 @@ Elements m n words = (i : ℕ) → i < n → getD words i 0 < modulus m
 
 -- ---- the plain run
 
--- The d + 1 pairs of rows.
-unfoldable pub pairsIn : ℕ → Pairs → List Pair
-pairsIn d p = tabulate (suc d) (λ i. record { x = getD (p .x) i 0; y = getD (p .y) i 0 })
-
 -- The register that a pair of rows makes of the old ones.
 unfoldable pub plainSum : ℕ → List ℕ → Pair → ℕ
 plainSum m old p = (getD old (p .x) 0 + getD old (p .y) 0) % modulus m
 
--- What a step asks: pairs of rows that there are, and old registers that are elements.
-pub record PlainStep (m d : ℕ) (pairs : Pairs) (old : List ℕ) : Type 0 where
+-- What a step asks: old registers that are elements.
+pub record PlainStep (m d : ℕ) (old : List ℕ) : Type 0 where
   pub dHigh : d ≤ 8
   pub mHigh : m ≤ 2 ^ 63
-  pub xInside : (i : ℕ) → i ≤ d → getD (pairs .x) i 0 ≤ d
-  pub yInside : (i : ℕ) → i ≤ d → getD (pairs .y) i 0 ≤ d
   pub below : Elements m (suc d) old
 
 -- What all steps ask.
@@ -66,15 +58,13 @@ pub record DifferenceAdd (x : ℕ) (vector : List ℤ) (elements : List ℕ) (m 
 unfoldable pub differenceOf : ℕ → List ℕ → List ℕ → Entry → ℕ
 differenceOf m elements old e = differenceAdd m elements (getD old (e .x) 0) (e .vector)
 
--- What a step asks: the signs before it, the order after it, and registers and elements that are elements.
-pub record DifferenceStep (m d : ℕ) (signs : List ℤ) (order elements old : List ℕ) : Type 0 where
-  pub dHigh : d ≤ 8
+-- What a step asks: a walk that can be stepped, and registers and elements that are elements.
+pub record DifferenceStep (m : ℕ) (w : Walk) (elements old : List ℕ) : Type 0 where
+  pub ready : Ready w
   pub mHigh : m ≤ 2 ^ 63
-  pub units : Units d signs
-  pub columns : Columns d order
-  pub long : length elements ≡ d
-  pub below : Elements m d elements
-  pub registers : Elements m (suc d) old
+  pub long : length elements ≡ w .d
+  pub below : Elements m (w .d) elements
+  pub registers : Elements m (suc (w .d)) old
 
 -- What all steps ask: a walk at its start.
 pub record DifferenceSteps (m : ℕ) (w : Walk) (l : ℕ) (bytes elements start : List ℕ) : Type 0 where

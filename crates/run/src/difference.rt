@@ -1,10 +1,9 @@
 // The difference run: each new register is made from one old one and a difference vector.
 use crate::modular::add;
 use crate::modular::times;
-use walk::addition::doubling;
-use walk::addition::next_addition;
-use walk::advance::advance;
 use walk::bits::step_bits;
+use walk::number::bit;
+use walk::number::ones_in;
 use walk::state::Walk;
 ghost use mathlib.Core.Path.{_≡_};
 ghost use mathlib.Core.List.{map};
@@ -12,7 +11,7 @@ ghost use Prim.Native.Nat.{suc, pred};
 ghost use lib.ListN.{length, take};
 ghost use Rattle.ladder.specs.Numbers.{bitsAt};
 ghost use Rattle.ladder.specs.Registers.{differenceAdd, differenceRule, registersAfter};
-ghost use Rattle.ladder.specs.Walk.{bitsOf, orderOf};
+ghost use Rattle.ladder.specs.Walk.{bitsOf, orderOf, stepWalk};
 ghost use Rattle.walk.specs.Inner.WalkTrace.{walkBlock};
 ghost use Rattle.walk.specs.WalkState.{walkState};
 ghost use Rattle.run.specs.Inner.{DifferenceAdd, DifferenceStep, DifferenceSteps, differenceOf};
@@ -31,34 +30,50 @@ pub fn difference_add(x: u64, vector: [i8; 8], elements: &[u64], m: u64) -> u64
     sum
 }
 
-// One step with the bits r: the signs are those before it, the order is the one after it. Of the old registers each addition reads that of row x alone.
-pub fn difference_step(
-    m: u64,
-    d: usize,
-    signs: [i8; 8],
-    order: [u8; 8],
-    r: u64,
-    elements: &[u64],
-    old: [u64; 9],
-) -> [u64; 9]
-    requires { ⌜ DifferenceStep m d signs order (now elements) old ⌝ }
-    ensures { λ new. ⌜ take (suc d) new ≡ map (differenceOf m (now (elements .entry)) (take (suc d) old)) (walkBlock d (take d signs) (map pred (take d order)) (bitsOf d r)) ⌝ }
+// What the run has after a step.
+pub struct Held {
+    pub walk: Walk,
+    pub regs: [u64; 9],
+}
+
+// One step with the bits r. Each addition fills in one sign more, as it is before the step: that of the column at the next place of the new
+// order. Of the old registers it reads that of row x alone.
+pub fn difference_step(m: u64, w: Walk, r: u64, elements: &[u64], old: [u64; 9]) -> Held
+    requires { ⌜ DifferenceStep m (walkState w) (now elements) old ⌝ }
+    ensures { λ h. ⌜ (walkState (h .walk) ≡ stepWalk (walkState w) r) × (take (suc (w .d)) (h .regs) ≡ map (differenceOf m (now (elements .entry)) (take (suc (w .d)) old)) (walkBlock (w .d) (take (w .d) (w .signs)) (map pred (take (w .d) (h .walk .order))) (bitsOf (w .d) r))) ⌝ }
 {
+    let d = w.d as usize;
+    let places = w.order;
+    let before = w.signs;
+    let mut vector = [0i8; 8];
+    let mut order = [0u8; 8];
+    let mut signs = [0i8; 8];
     let mut new = [0u64; 9];
-    let first = doubling(d, r);
-    let h = first.x;
-    new[0] = add(m, old[h], old[h]);
-    let mut a = first;
+    let mut x = ones_in(d, r);
+    new[0] = add(m, old[x], old[x]);
     let mut k: usize = 0;
     while k < d {
-        let b = next_addition(a, d, signs, order, r, k);
-        let x = b.x;
-        let vector = b.vector;
+        let b = bit(d, r, k) as usize;
+        x -= b;
+        let c = places[x + k * (1 - b)];
+        order[k] = c;
+        let j = c as usize - 1;
+        let s = before[j];
+        vector[j] = s;
+        if b == 1 {
+            signs[j] = -s;
+        } else {
+            signs[j] = s;
+        }
         k += 1;
         new[k] = difference_add(old[x], vector, elements, m);
-        a = b;
     }
-    new
+    let walk = Walk {
+        d: w.d,
+        order,
+        signs,
+    };
+    Held { walk, regs: new }
 }
 
 // All l steps, from the walk's start and the start registers.
@@ -79,12 +94,9 @@ pub fn difference_steps(
     let mut s: usize = 0;
     while s < l {
         let r = step_bits(bits, d, s);
-        let next = advance(walk, r);
-        let signs = walk.signs;
-        let order = next.order;
-        let new = difference_step(m, d, signs, order, r, elements, regs);
-        regs = new;
-        walk = next;
+        let held = difference_step(m, walk, r, elements, regs);
+        walk = held.walk;
+        regs = held.regs;
         s += 1;
     }
     regs

@@ -4,7 +4,6 @@ mod answer;
 mod calls;
 mod difference;
 mod modular;
-mod pairs;
 mod plain;
 mod start;
 mod store;

@@ -1,20 +1,20 @@
 -- The new order as a loop fills it: x is the number of ones that are left, and y stands k places below x.
 -- Assumes nothing.
-use Prim.Native.Nat.{ℕ, suc, pred, _+_, _-_, _≤_, _<_}
+use Prim.Native.Nat.{ℕ, zero, suc, pred, _+_, _-_, _*_, _≤_, _<_}
 use mathlib.Core.Path.{_≡_, sym, ap, ap₂, _∙_}
 use mathlib.Core.List.{List, _∷_, _++_}
 use native.Mathlib.Nat.{add-zero}
 use native.Mathlib.Numerals.{add-one, sub-one}
 use native.Mathlib.Omega.{arith}
-use lib.ListN.{getD, take, drop, set, replicate}
-use lib.Seq.{sets, getD-take}
+use lib.ListN.{length, getD, take, drop, set, replicate, length-append, length-replicate}
+use lib.Seq.{sets, length-sets, getD-take, getD-set-same}
 use Rattle.ladder.specs.Lists.{ones}
 use Rattle.ladder.specs.Matrix.{orderFrom, stepOrder}
 use Rattle.ladder.specs.Walk.{bitsOf}
 use Rattle.ladder.proofs.Step.{length-stepOrder}
 use Rattle.ladder.proofs.Walk.{length-bitsOf}
 use Rattle.walk.proofs.StepBits.{bit-below, bits-left, no-bits-left, ones-left, ones-room}
-use Rattle.walk.proofs.Runs.{sets-front}
+use Rattle.walk.proofs.Runs.{sets-front, sets-before}
 
 -- After k places: the rest of the order, written behind them, makes the whole.
 pub record Filling (d : ℕ) (old : List ℕ) (n : ℕ) (new : List ℕ) (x k : ℕ) : Type 0 where
@@ -72,6 +72,38 @@ module _ (d : ℕ) (old : List ℕ) (n : ℕ) (small : d ≤ 8) where
               ∙ f .done);
         }
 
+    -- Whichever it is, this is what it does.
+    pub filling-next : k < d → (b : ℕ) → b ≡ getD (bitsOf d n) k 0
+        → Filling d old n (set new k (getD old (x - b + k * (1 - b)) 0)) (x - b) (k + 1)
+    filling-next h zero e =
+        let place : x - 0 + k * (1 - 0) ≡ x + k = omega arith in
+        let same : x - 0 ≡ x = omega arith in
+        rw (place, same) (filling-zero h (sym e))
+    filling-next h (suc zero) e =
+        let place : x - 1 + k * (1 - 1) ≡ x - 1 = omega arith in
+        rw place (filling-one h (sym e))
+    filling-next h (suc (suc b)) e = absurd (omega (arith, bit-below d n k))
+
+    -- The column that it writes is the new order's at this place.
+    pub filling-place : k < d → (b : ℕ) → b ≡ getD (bitsOf d n) k 0
+        → getD old (x - b + k * (1 - b)) 0 ≡ getD (stepOrder (take d old) (bitsOf d n) ++ replicate (8 - d) 0) k 0
+    filling-place h b e =
+        let c = getD old (x - b + k * (1 - b)) 0 in
+        let eight : length new ≡ 8 =
+        omega (
+          arith,
+          small,
+          length-sets new k (orderFrom (take d old) x (x + k) (drop k (bitsOf d n))),
+          ap length (f .done),
+          length-append (stepOrder (take d old) (bitsOf d n)) (replicate (8 - d) 0),
+          length-stepOrder (take d old) (bitsOf d n),
+          length-bitsOf d n,
+          length-replicate {A = ℕ} (8 - d) 0,
+        ) in
+        sym (ap (λ l. getD l k 0) (sym (filling-next h b e .done))
+        ∙ sets-before (set new k c) (k + 1) (orderFrom (take d old) (x - b) (x - b + (k + 1)) (drop (k + 1) (bitsOf d n))) k 0 (omega arith)
+        ∙ getD-set-same new k c 0 (omega (arith, eight)))
+
 -- Bit k is among the ones that are left, and the places that it reads are inside.
 pub filling-room : {d : ℕ} {old : List ℕ} {n : ℕ} {new : List ℕ} {x k : ℕ} → Filling d old n new x k → k < d
     → (getD (bitsOf d n) k 0 ≤ x) × (x + k < d + getD (bitsOf d n) k 0) × (getD (bitsOf d n) k 0 < 2)
@@ -79,3 +111,10 @@ filling-room {d} {old} {n} {new} {x} {k} f h =
     let left = ones-left d n k h in
     let room = ones-room d n (k + 1) (omega arith) in
     (omega (arith, f .left), omega (arith, f .left), bit-below d n k)
+
+-- So b, which is bit k, can be taken from x, and the place that is read then is inside.
+pub filling-reads : {d : ℕ} {old : List ℕ} {n : ℕ} {new : List ℕ} {x k : ℕ} → Filling d old n new x k → k < d → (b : ℕ)
+    → b ≡ getD (bitsOf d n) k 0 → (b ≤ x) × (b < 2) × (x - b + k * (1 - b) < d)
+filling-reads f h zero e = (omega arith, omega arith, omega (arith, filling-room f h))
+filling-reads f h (suc zero) e = (omega (arith, filling-room f h), omega arith, omega (arith, filling-room f h))
+filling-reads f h (suc (suc b)) e = absurd (omega (arith, filling-room f h))

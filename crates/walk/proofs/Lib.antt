@@ -10,6 +10,7 @@ pub mod Reading
 pub mod Entries
 pub mod Additions
 pub mod Blocks
+pub mod StepBlocks
 pub mod WalkBlocks
 pub mod Tracing
 pub mod WalkEntries

@@ -21,7 +21,7 @@ use Rattle.ladder.proofs.Walk.{pred-suc}
 use Rattle.ladder.proofs.Refusals.{Accepted, WalkOk}
 use Rattle.ladder.proofs.Demand3.{state-in, signs-in}
 use Rattle.walk.specs.Inner.Ready.{Columns, Ready}
-use Rattle.walk.specs.Inner.WalkTrace.{walkEntries, CanTrace, Traced}
+use Rattle.walk.specs.Inner.WalkTrace.{walkEntries, CanTrace, TraceLeft}
 use Rattle.walk.proofs.WalkEntries.{walk-trace}
 
 -- A walk state that is not refused can be stepped.
@@ -83,7 +83,7 @@ module _ (p : Plan) (ok : Accepted p) where
 
   -- .. and it is the plan's.
   pub traced-in : (out : List ℕ) (m n : ℕ)
-      → Traced (walkEntries (walkOf (p .d) (startOrder p) (startSigns (p .d))) (p .bits) 0 (p .l - 0)) out m n
+      → TraceLeft (walkEntries (walkOf (p .d) (startOrder p) (startSigns (p .d))) (p .bits) 0 (p .l - 0)) out m n
       → (out ≡ traceBytes (entriesIn p)) × (m ≡ doublings (entriesIn p)) × (n ≡ additionCount (entriesIn p))
   traced-in out m n t =
       let e = ap (walkEntries (walkOf (p .d) (startOrder p) (startSigns (p .d))) (p .bits) 0) (sub-zero (p .l)) ∙ walk-trace p ok in

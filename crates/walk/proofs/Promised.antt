@@ -22,7 +22,7 @@ use Rattle.ladder.proofs.Trace.{trace-doublings, trace-additions}
 use Rattle.ladder.proofs.Demand3.{state-in}
 use Rattle.walk.specs.declared.state.Walk.{Walk}
 use Rattle.walk.specs.declared.step.Stepped.{Stepped}
-use Rattle.walk.specs.declared.trace.TraceAnswer.{TraceAnswer}
+use Rattle.walk.specs.declared.trace.Traced.{Traced}
 use Rattle.walk.specs.WalkState.{walkState}
 use Rattle.walk.specs.Promise.{StepPromise, TracePromise}
 use Rattle.walk.proofs.PlanWalk.{ready-in}
@@ -97,7 +97,7 @@ module _ (p : Plan) (ok : Accepted p) where
 
 -- ---- trace
 
-module _ {p : Plan} {trace : List ℕ} {r : TraceAnswer} {traceAfter : List ℕ} (promise : TracePromise p trace r traceAfter) where
+module _ {p : Plan} {trace : List ℕ} {r : Traced} {traceAfter : List ℕ} (promise : TracePromise p trace r traceAfter) where
   -- Trace's refusal is 0 exactly where the plan and the buffers are what it asks ..
   pub trace-accepts : r .refusal ≡ 0 ↔ TraceOk p trace
   trace-accepts = subst (λ n. n ≡ 0 ↔ TraceOk p trace) (sym (promise .refusal-is)) (trace-none p trace)

@@ -13,7 +13,7 @@ use Rattle.ladder.specs.Walk.{Walk, bitsOf, stepWalk}
 use Rattle.ladder.proofs.Trace.{doublings-append, additionCount-append, traceBytes-append}
 use Rattle.walk.specs.Inner.Ready.{Ready}
 use Rattle.walk.specs.Inner.ReadBits.{ReadBits}
-use Rattle.walk.specs.Inner.WalkTrace.{walkBlock, walkEntries, CanTrace, Traced}
+use Rattle.walk.specs.Inner.WalkTrace.{walkBlock, walkEntries, CanTrace, TraceLeft}
 use Rattle.walk.proofs.Runs.{sets-append, sets-whole}
 use Rattle.walk.proofs.Stepping.{ready-step}
 use Rattle.walk.proofs.WalkBlocks.{blockOf, block-of-arrays, blockOf-length, blockOf-doublings, blockOf-additions, entries-next, step-d, entries-length, entries-doublings, entries-additions}
@@ -134,7 +134,7 @@ module _ {w₀ : Walk} {bytes : List ℕ} {from to : ℕ} {start : List ℕ} (as
           }
 
     -- No step left.
-    pub tracing-end : to ≤ s → Traced (walkEntries w₀ bytes from (to - from)) out doubled added
+    pub tracing-end : to ≤ s → TraceLeft (walkEntries w₀ bytes from (to - from)) out doubled added
     unfolding walkEntries traceBytes flatten doublings additionCount
     tracing-end h =
         let over : to - s ≡ 0 = omega arith in

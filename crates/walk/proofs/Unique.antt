@@ -8,7 +8,7 @@ use Rattle.ladder.specs.Walk as rules
 use Rattle.ladder.proofs.Tests.{refusing-same}
 use Rattle.walk.specs.declared.state.Walk.{Walk}
 use Rattle.walk.specs.declared.step.Stepped.{Stepped}
-use Rattle.walk.specs.declared.trace.TraceAnswer.{TraceAnswer}
+use Rattle.walk.specs.declared.trace.Traced.{Traced}
 use Rattle.walk.specs.WalkState.{walkState}
 use Rattle.walk.specs.Promise.{StepPromise, TracePromise}
 
@@ -28,7 +28,7 @@ step-unique {w} {bits} {r} {s} x y =
     ap₂ (λ m v. record { refusal = m; walk = v }) n (same-walk (r .walk) (s .walk) (refusing-same _ _ n (x .walk-is) (y .walk-is)))
 
 -- Two answers with two outputs that trace could give and leave on the same input are equal.
-pub trace-unique : {p : Plan} {trace : List ℕ} {r s : TraceAnswer} {traceAfter traceOther : List ℕ}
+pub trace-unique : {p : Plan} {trace : List ℕ} {r s : Traced} {traceAfter traceOther : List ℕ}
     → TracePromise p trace r traceAfter → TracePromise p trace s traceOther → (r ≡ s) × (traceAfter ≡ traceOther)
 trace-unique {r = r} {s} x y =
     let n = x .refusal-is ∙ sym (y .refusal-is) in (

@@ -11,7 +11,7 @@ use lib.Seq.{drop-cons, ext-getD}
 use Rattle.ladder.specs.Lists.{joined, ones}
 use Rattle.ladder.specs.Matrix.{Matrix, row, entry, signsOf, startSigns, additions, stepOrder, stepSigns, orderAfter, signsAfter}
 use Rattle.ladder.specs.Plan.{Plan, startOrder, stepBits, orderIn, signsIn}
-use Rattle.ladder.specs.Trace.{difference, operations, entryOf, block, blockIn, entriesIn, traceBytes}
+use Rattle.ladder.specs.Trace.{difference, operations, entryOf, block, blockIn, entriesIn}
 use Rattle.ladder.specs.Walk.{walkOf}
 use Rattle.ladder.proofs.Lists.{joined-same}
 use Rattle.ladder.proofs.Step.{rowX, rowY, length-additions, additions-x, additions-y, length-stepOrder, noPair}
@@ -19,7 +19,6 @@ use Rattle.ladder.proofs.Stairs.{Stairs, stairs, new-order}
 use Rattle.ladder.proofs.Signs.{getD-signsOf}
 use Rattle.ladder.proofs.Vectors.{length-difference, difference-at, sub-le, vector-next}
 use Rattle.ladder.proofs.Bits.{length-stepBits}
-use Rattle.ladder.proofs.Trace.{traceBytes-joined}
 use Rattle.ladder.proofs.Walk.{order-of-walk, signs-of-walk, length-orderAfter, length-signsAfter}
 use Rattle.ladder.proofs.Refusals.{Accepted}
 use Rattle.ladder.proofs.Demand3.{state-in, signs-in}
@@ -123,8 +122,3 @@ module _ (p : Plan) (ok : Accepted p) where
   pub walk-trace : walkEntries (walkOf (p .d) (startOrder p) (startSigns (p .d))) (p .bits) 0 (p .l) ≡ entriesIn p
   unfolding entriesIn orderIn signsIn orderAfter signsAfter
   walk-trace = walk-entries (p .l) 0 ∙ joined-same (p .l) _ (blockIn p) (λ i h. ap (blockIn p) (zero-add i))
-
-  -- The bytes of any range of steps.
-  pub walk-bytes : (n s : ℕ)
-      → traceBytes (walkEntries (walkOf (p .d) (orderIn p s) (signsIn p s)) (p .bits) s n) ≡ joined n (λ i. traceBytes (blockIn p (s + i)))
-  walk-bytes n s = ap traceBytes (walk-entries n s) ∙ traceBytes-joined n (λ i. blockIn p (s + i))

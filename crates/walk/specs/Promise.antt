@@ -9,7 +9,7 @@ use Rattle.ladder.specs.Walk.{stepWalk}
 use Rattle.ladder.specs.Refusals.{refusing, stepRefusal, traceRefusal}
 use Rattle.walk.specs.declared.state.Walk.{Walk}
 use Rattle.walk.specs.declared.step.Stepped.{Stepped}
-use Rattle.walk.specs.declared.trace.TraceAnswer.{TraceAnswer}
+use Rattle.walk.specs.declared.trace.Traced.{Traced}
 use Rattle.walk.specs.WalkState.{walkState}
 
 -- Step, of the walk state w with the bits as one number: the next state; on refusal the state as it was, all 17 fields. With d 2, order
@@ -21,7 +21,7 @@ pub record StepPromise (w : Walk) (bits : ℕ) (r : Stepped) : Type 0 where
 -- Trace, of the plan p, with the trace buffer as it comes and as it is left: the bytes of its entries, whose vectors are rows of the
 -- matrix before each step, and the counts of these entries; on refusal zeros, and the buffer as it came. With d 2, l 2, start order 1 2,
 -- bits B0, row 2 and room for 24 bytes: refusal 0, 2 doublings, 4 additions, and bytes that begin 02 02 00 00, 01 02 01 00.
-pub record TracePromise (p : Plan) (trace : List ℕ) (r : TraceAnswer) (traceAfter : List ℕ) : Type 0 where
+pub record TracePromise (p : Plan) (trace : List ℕ) (r : Traced) (traceAfter : List ℕ) : Type 0 where
   pub refusal-is : r .refusal ≡ traceRefusal p trace
   pub doublings-are : r .doublings ≡ refusing (r .refusal) 0 (doublings (entriesIn p))
   pub additions-are : r .additions ≡ refusing (r .refusal) 0 (additionCount (entriesIn p))

@@ -21,9 +21,7 @@ pub fn ones_in(d: usize, r: u64) -> usize
     let mut h: usize = 0;
     let mut k: usize = 0;
     while k < d {
-        if bit(d, r, k) == 1 {
-            h += 1;
-        }
+        h += bit(d, r, k) as usize;
         k += 1;
     }
     h

@@ -18,12 +18,9 @@ pub fn next_order(d: usize, old: [u8; 8], r: u64) -> [u8; 8]
     let mut x = ones_in(d, r);
     let mut k: usize = 0;
     while k < d {
-        if bit(d, r, k) == 1 {
-            x -= 1;
-            new[k] = old[x];
-        } else {
-            new[k] = old[x + k];
-        }
+        let b = bit(d, r, k) as usize;
+        x -= b;
+        new[k] = old[x + k * (1 - b)];
         k += 1;
     }
     new

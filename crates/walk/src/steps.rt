@@ -1,11 +1,10 @@
 // The trace of a range of steps.
-use crate::advance::advance;
 use crate::bits::step_bits;
 use crate::block::write_block;
 use crate::state::Walk;
 ghost use Prim.Native.Nat.{_-_};
 ghost use Rattle.walk.specs.WalkState.{walkState};
-ghost use Rattle.walk.specs.Inner.WalkTrace.{walkEntries, CanTrace, Traced};
+ghost use Rattle.walk.specs.Inner.WalkTrace.{walkEntries, CanTrace, TraceLeft};
 
 // The operations written.
 pub struct Counts {
@@ -16,7 +15,7 @@ pub struct Counts {
 // Writes the entries of steps `from` to `to` - 1 (from 0) of a walk that stands before step `from`, and answers what it wrote.
 pub fn trace_steps(w: Walk, bits: &[u8], from: u64, to: u64, out: &mut [u8]) -> Counts
     requires { ⌜ CanTrace (walkState w) (now bits) from to (now out) ⌝ }
-    ensures { λ n. ⌜ Traced (walkEntries (walkState w) (now (bits .entry)) from (to - from)) (now (out .exit)) (n .doublings) (n .additions) ⌝ }
+    ensures { λ n. ⌜ TraceLeft (walkEntries (walkState w) (now (bits .entry)) from (to - from)) (now (out .exit)) (n .doublings) (n .additions) ⌝ }
 {
     let end = to as usize;
     let mut s = from as usize;
@@ -27,10 +26,7 @@ pub fn trace_steps(w: Walk, bits: &[u8], from: u64, to: u64, out: &mut [u8]) -> 
     while s < end {
         let d = walk.d as usize;
         let r = step_bits(bits, d, s);
-        let next = advance(walk, r);
-        let signs = walk.signs;
-        let order = next.order;
-        write_block(d, signs, order, r, out, at);
+        let next = write_block(walk, r, out, at);
         at += (d + 1) * (d + 2);
         doublings += 1;
         additions += walk.d;

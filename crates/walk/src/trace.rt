@@ -7,7 +7,7 @@ ghost use Rattle.ladder.specs.Refusals.{traceRefusal};
 ghost use Rattle.walk.specs.Promise.{TracePromise};
 
 // What a trace answers: the refusal, and the doublings and the additions written, 0 where it refuses.
-pub struct TraceAnswer {
+pub struct Traced {
     pub refusal: u64,
     pub doublings: u64,
     pub additions: u64,
@@ -22,12 +22,12 @@ fn trace_refusal(d: u64, l: u64, start: &[u8], bits: &[u8], row: u64, out: &[u8]
 }
 
 // The trace of a plan: for each step its doubling and its d additions, each x, y and the difference of the two rows.
-pub fn trace(d: u64, l: u64, start: &[u8], bits: &[u8], row: u64, out: &mut [u8]) -> TraceAnswer
+pub fn trace(d: u64, l: u64, start: &[u8], bits: &[u8], row: u64, out: &mut [u8]) -> Traced
     ensures { λ r. ⌜ TracePromise (planLent d l (now (start .entry)) (now (bits .entry)) row) (now (out .entry)) r (now (out .exit)) ⌝ }
 {
     let refusal = trace_refusal(d, l, start, bits, row, out);
     if refusal != refuse::OK {
-        return TraceAnswer {
+        return Traced {
             refusal,
             doublings: 0,
             additions: 0,
@@ -35,7 +35,7 @@ pub fn trace(d: u64, l: u64, start: &[u8], bits: &[u8], row: u64, out: &mut [u8]
     }
     let w = start_walk(d, start);
     let written = trace_steps(w, bits, 0, l, out);
-    TraceAnswer {
+    Traced {
         refusal,
         doublings: written.doublings,
         additions: written.additions,

@@ -1,11 +1,8 @@
--- Orders in the first d places of an array of eight, and the columns parted by their bits.
+-- Orders in the first d places of an array of eight, and the bits dealt by one.
 -- Assumes nothing.
-use Prim.Native.Nat.{ℕ, _-_, _/_, _%_, _^_, _≤_, _<_}
-use mathlib.Core.Path.{_≡_}
-use mathlib.Core.List.{List, map, reverse}
-use lib.ListN.{getD, take}
-use Rattle.ladder.specs.Encoding.{picked, passed}
-use Rattle.encode.specs.declared.order.Parted.{Parted}
+use Prim.Native.Nat.{ℕ, _/_, _%_, _^_, _≤_, _<_}
+use mathlib.Core.List.{List, map}
+use lib.ListN.{getD}
 
 -- The first d places hold columns.
 pub record ColumnsIn (d : ℕ) (order : List ℕ) : Type 0 where
@@ -15,15 +12,3 @@ pub record ColumnsIn (d : ℕ) (order : List ℕ) : Type 0 where
 -- Each place's bit, where column j's stands in a number at weight 2^j.
 unfoldable pub dealtBy : ℕ → List ℕ → List ℕ
 dealtBy n S = map (λ j. n / 2 ^ j % 2) S
-
--- The columns of S parted by the bits r.
-pub record Collected (S r : List ℕ) (d : ℕ) (p : Parted) : Type 0 where
-  pub few : p .h ≤ d
-  pub ones : take (p .h) (p .ones) ≡ picked S r
-  pub zeros : take (d - p .h) (p .zeros) ≡ passed S r
-
--- The same with the ones reversed.
-pub record Turned (p q : Parted) : Type 0 where
-  pub h : q .h ≡ p .h
-  pub ones : take (p .h) (q .ones) ≡ reverse (take (p .h) (p .ones))
-  pub zeros : q .zeros ≡ p .zeros

@@ -1,4 +1,5 @@
--- `list::main` is safe and ends: what the listing says is text lies within the buffer (`listing-inside`). Assumes nothing.
+-- `list::main` is safe and ends: what the listing says is text lies within the buffer (`listing-inside`).
+-- Assumes the toolchain's contracts of the C library's read and write.
 use mathlib.Core.Path.{sym}
 use lib.Seq.{length-take-le}
 use Rattle.listing.proofs.Promised.{listing-inside}

@@ -42,7 +42,7 @@ pub record CanTrace (w : Walk) (bytes : List ℕ) (s e : ℕ) (out : List ℕ) :
   pub room : length out ≡ (e - s) * ((w .d + 1) * (w .d + 2))
 
 -- What it leaves: the entries' bytes, and their counts.
-pub record Traced (es : List Entry) (out : List ℕ) (m n : ℕ) : Type 0 where
+pub record TraceLeft (es : List Entry) (out : List ℕ) (m n : ℕ) : Type 0 where
   pub bytes : out ≡ traceBytes es
   pub doubled : m ≡ doublings es
   pub added : n ≡ additionCount es

@@ -37,13 +37,13 @@ lent-plan-requires c κs = search needs
 returns : tie.Need-returns
 returns c = check-early (lent (c .before)) (entry (c .before) .args .scalars .now) _ (worked (c .before)) (c .if1 .taken)
 
-scalar-requires : tie.Need-scalar-requires
-scalar-requires c κs = check-shaped (lent (c .before)) (entry (c .before) .args .scalars .now) _ (worked (c .before)) (c .if1 .left)
+scalar-refusal-requires : tie.Need-scalar-refusal-requires
+scalar-refusal-requires c κs = check-shaped (lent (c .before)) (entry (c .before) .args .scalars .now) _ (worked (c .before)) (c .if1 .left)
 
 returns-2 : tie.Need-returns-2
 returns-2 c =
     let clear = c .before in
-    c .scalar .ensures ∙ check-late (lent (clear .before)) (entry (clear .before) .args .scalars .now) _ (worked (clear .before)) (clear .if1 .left)
+    c .scalar-refusal .ensures ∙ check-late (lent (clear .before)) (entry (clear .before) .args .scalars .now) _ (worked (clear .before)) (clear .if1 .left)
 
 pub check-refusal-spec : {M : Type 1} → statement M
 check-refusal-spec =
@@ -53,5 +53,5 @@ check-refusal-spec =
     shape-requires
     lent-plan-requires
     returns
-    scalar-requires
+    scalar-refusal-requires
     returns-2)

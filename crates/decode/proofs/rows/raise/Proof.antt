@@ -3,41 +3,41 @@
 use Rattle.decode.specs.Inner.{raisedOne}
 use Prim.Native.Nat.{_-_}
 use mathlib.Core.Path.{ap, _∙_}
-use lib.IntN.{pos}
 use lib.ListN.{getD}
 use native.Mathlib.Omega.{arith}
-use Rattle.ladder.specs.Inner.Decoding.{digit}
-use Rattle.walk.proofs.SmallSigns.{unit-kept}
-use Rattle.decode.proofs.Raising.{Raising, raising-starts, raising-room, raising-next, raising-long, raising-ends}
+use Rattle.decode.proofs.Raising.{Raising, raising-starts, raising-digit, raising-room, raising-word, raising-next, raising-long, raising-ends}
 use borrow.Author.Needs.{needs}
 use Rattle.decode.proofs.rows.raise.Statement.{statement}
 use Rattle.decode.proofs.rows.raise.Tie as tie
 
 abbrev Inv-loop : tie.InvT-loop
-Inv-loop values₀ d k signs above j₀ values j = Raising d k signs above values₀ values j
+Inv-loop values₀ d k above j₀ values j = Raising d k above values₀ values j
 
 abbrev μ-loop : tie.MeasureT-loop
-μ-loop values₀ d k signs above j₀ values j = d - j
+μ-loop values₀ d k above j₀ values j = d - j
 
 loop-holds : tie.Need-loop-holds Inv-loop μ-loop
 loop-holds c =
     let a = c .before .args in
-    raising-starts (a .d) (a .k) (a .t4) (a .t5) (a .values .now) (c .before .pre) (λ i. c .slice-known .given i .fits)
+    raising-starts (a .d) (a .k) (a .t4) (a .values .now) (c .before .pre) (λ i. c .slice-known .given i .fits)
 
-array-copy-out-digit : tie.Need-array-copy-out-digit Inv-loop μ-loop
-array-copy-out-digit c = omega (arith, c .before .before .loop .inv .begun .dHigh)
+mul-digit : tie.Need-mul-digit Inv-loop μ-loop
+mul-digit c = omega (arith, raising-word (c .before .loop .inv) (omega arith))
 
-digit-requires : tie.Need-digit-requires Inv-loop μ-loop
-digit-requires c κs = search needs
+mul-digit-2 : tie.Need-mul-digit-2 Inv-loop μ-loop
+mul-digit-2 c = omega (arith, raising-word (c .before .loop .inv) (omega arith))
+
+slice-read-digit : tie.Need-slice-read-digit Inv-loop μ-loop
+slice-read-digit c = raising-word (c .before .before .loop .inv) (omega arith) .0
 
 mul-raise-one : tie.Need-mul-raise-one Inv-loop μ-loop
-mul-raise-one c = omega (arith, c .before .before .before .before .loop .inv .begun .dHigh)
+mul-raise-one c = omega (arith, c .before .before .before .loop .inv .begun .dHigh)
 
 array-read-raise-one : tie.Need-array-read-raise-one Inv-loop μ-loop
-array-read-raise-one c = omega (arith, c .before .before .before .before .loop .inv .begun .dHigh)
+array-read-raise-one c = omega (arith, c .before .before .before .loop .inv .begun .dHigh)
 
 raise-one-requires : tie.Need-raise-one-requires Inv-loop μ-loop
-raise-one-requires c κs = raising-room (c .before .before .before .before .loop .inv) (omega arith)
+raise-one-requires c κs = raising-room (c .before .before .before .loop .inv) (omega arith)
 
 add-j : tie.Need-add-j Inv-loop μ-loop
 add-j c = search needs
@@ -47,12 +47,11 @@ loop-less c = search needs
 
 loop-again : tie.Need-loop-again Inv-loop μ-loop
 loop-again c =
-    let b = c .before .before .before .before .before .before .before in
+    let b = c .before .before .before .before .before .before in
     let a = b .before .before .args in
-    let u = unit-kept (getD (a .t4) (b .loop .j) (pos 0)) (b .loop .inv .begun .units (b .loop .j) (omega arith)) in
     raising-next (b .loop .inv) (omega arith) (c .before .before .raise-one .last .0)
     (c .before .before .raise-one .ensures
-    ∙ ap (λ t. raisedOne (a .k) (b .loop .j) t (getD (a .t5) (b .loop .j) 0) (b .loop .values)) (c .before .before .before .digit .ensures ∙ ap digit u))
+    ∙ ap (λ t. raisedOne (a .k) (b .loop .j) t (getD (a .t4) (b .loop .j) 0) (b .loop .values)) (raising-digit (b .loop .inv) (omega arith)))
 
 same-length : tie.Need-same-length Inv-loop μ-loop
 same-length c = raising-long (c .before .loop .inv)
@@ -67,8 +66,9 @@ raise-spec =
     Inv-loop
     μ-loop
     loop-holds
-    array-copy-out-digit
-    digit-requires
+    mul-digit
+    mul-digit-2
+    slice-read-digit
     mul-raise-one
     array-read-raise-one
     raise-one-requires

@@ -1,7 +1,7 @@
 -- `store_full` meets its contract: the two ways are the two cases of the definition.
 -- Assumes nothing.
 use mathlib.Core.Path.{_∙_}
-use Rattle.decode.proofs.Partly.{full-held, full-stored, part-held, part-stored}
+use Rattle.decode.proofs.Partly.{full-stored, part-stored}
 use borrow.Author.Needs.{needs}
 use Rattle.decode.proofs.values.store_full.Statement.{statement}
 use Rattle.decode.proofs.values.store_full.Tie as tie
@@ -14,16 +14,14 @@ same-length c = search needs
 
 returns : tie.Need-returns
 returns c =
-    let a = c .before .before .before .before .before .before .args in
-    let z = c .before .before .before .before .if1 .taken in (
-      full-held (a .left) (a .more) z,
-      c .before .before .store-words .ensures ∙ full-stored (a .d) (a .k) (a .left) (a .more) (a .values .now) z,
-    )
+    let a = c .before .before .before .before .before .before .before .args in
+    c .before .before .store-words .ensures
+    ∙ full-stored (a .d) (a .k) (a .left) (a .held .now) (a .values .now) (c .before .before .before .before .if1 .taken)
 
 returns-2 : tie.Need-returns-2
 returns-2 c =
-    let a = c .before .before .args in
-    (part-held (a .left) (a .more) (c .if1 .left), part-stored (a .d) (a .k) (a .left) (a .more) (a .values .now) (c .if1 .left))
+    let a = c .before .before .before .args in
+    part-stored (a .d) (a .k) (a .left) (a .held .now) (a .values .now) (c .if1 .left)
 
 pub store-full-spec : {M : Type 1} → statement M
 store-full-spec = tie.close (tie.spec store-words-requires same-length returns returns-2)

@@ -1,4 +1,4 @@
--- `encode_refusal` meets its contract. Rests on the refusal's parts before and after number 4 (`judged-early`, `judged-late`).
+-- `encode_refusal` meets its contract. Rests on the refusal's parts up to number 3 and from 4 on (`judged-early`, `judged-late`).
 -- Assumes nothing.
 use mathlib.Core.Path.{_≡_, ap, ap₂, _∙_}
 use borrow.Author.Needs.{needs}
@@ -67,15 +67,15 @@ first-requires-4 c κs = search needs
 returns : tie.Need-returns
 returns c = judged-early _ _ _ _ _ _ (worked (c .before)) (c .if1 .taken)
 
-scalar-requires : tie.Need-scalar-requires
-scalar-requires c κs =
+scalar-refusal-requires : tie.Need-scalar-refusal-requires
+scalar-refusal-requires c κs =
     let a = entry (c .before) .args in
     judged-shaped _ _ _ (a .start .now) (a .bits .now) _ (worked (c .before)) (c .if1 .left)
 
 returns-2 : tie.Need-returns-2
 returns-2 c =
     let passed = c .before in
-    c .scalar .ensures ∙ judged-late _ _ _ _ _ _ (worked (passed .before)) (passed .if1 .left)
+    c .scalar-refusal .ensures ∙ judged-late _ _ _ _ _ _ (worked (passed .before)) (passed .if1 .left)
 
 pub encode-refusal-spec : {M : Type 1} → statement M
 encode-refusal-spec =
@@ -93,5 +93,5 @@ encode-refusal-spec =
     first-requires-3
     first-requires-4
     returns
-    scalar-requires
+    scalar-refusal-requires
     returns-2)

@@ -24,14 +24,11 @@ step-bits-requires : tie.Need-step-bits-requires Inv-loop μ-loop
 unfolding walkState
 step-bits-requires c κs = bits-there (entered (c .before) .pre) (c .before .loop .inv) (c .loop-test .taken)
 
-advance-requires : tie.Need-advance-requires Inv-loop μ-loop
-advance-requires c κs = c .before .before .loop .inv .ready
-
 difference-step-requires : tie.Need-difference-step-requires Inv-loop μ-loop
 unfolding walkState
 difference-step-requires c κs =
-    let l = c .before .before .before .before .before in
-    step-asks (entered l .pre) (l .loop .inv) _ _ (c .before .before .advance .ensures)
+    let l = c .before .before in
+    step-asks (entered l .pre) (l .loop .inv)
 
 add-s : tie.Need-add-s Inv-loop μ-loop
 add-s c = search needs
@@ -42,10 +39,10 @@ loop-less c = search needs
 loop-again : tie.Need-loop-again Inv-loop μ-loop
 unfolding walkState
 loop-again c =
-    let l = c .before .before .before .before .before .before in
-    let i = c .before .before .before .before .before in
-    running-next (entered l .pre) (l .loop .inv) _ _ (c .before .before .before .advance .ensures)
-    (c .before .before .before .before .step-bits .ensures) (i .loop-test .taken) _ (c .difference-step .ensures)
+    let i = c .before .before .before .before in
+    let l = i .before in
+    let step = c .before .before .difference-step .ensures in
+    running-next (entered l .pre) (l .loop .inv) _ _ (step .0) (c .before .before .before .step-bits .ensures) (i .loop-test .taken) _ (step .1)
 
 returns : tie.Need-returns Inv-loop μ-loop
 unfolding walkState
@@ -59,7 +56,6 @@ difference-steps-spec =
     μ-loop
     loop-holds
     step-bits-requires
-    advance-requires
     difference-step-requires
     add-s
     loop-less

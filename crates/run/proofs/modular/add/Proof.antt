@@ -1,30 +1,39 @@
--- `add` meets its contract: two elements sum to less than twice the modulus (`sum-large`).
+-- `add` meets its contract: the highest bit of the wrapped difference says whether the modulus comes back (`sum-reduced`).
 -- Assumes nothing.
+use mathlib.Core.Path.{_∙_}
 use native.Mathlib.Omega.{arith}
 use borrow.Author.Needs.{needs}
-use Rattle.run.proofs.ByModulus.{modulus-zero, sum-fits, sum-small, sum-large}
+use Rattle.run.proofs.ByModulus.{back-fits, sum-reduced}
 use Rattle.run.proofs.modular.add.Statement.{statement}
 use Rattle.run.proofs.modular.add.Tie as tie
 
 wrapping-add-u64-requires : tie.Need-wrapping-add-u64-requires
 wrapping-add-u64-requires c κs = search needs
 
+wrapping-sub-u64-requires : tie.Need-wrapping-sub-u64-requires
+wrapping-sub-u64-requires c κs = search needs
+
+mul-wrapping-add-u64 : tie.Need-mul-wrapping-add-u64
+mul-wrapping-add-u64 c =
+    let s = c .before .before in
+    omega (arith, back-fits (s .args .m) (c .wrapping-sub-u64 .result) (s .pre .0) (omega arith))
+
+wrapping-add-u64-requires-2 : tie.Need-wrapping-add-u64-requires-2
+wrapping-add-u64-requires-2 c κs = search needs
+
 returns : tie.Need-returns
-returns c = rw (modulus-zero _ (c .before .if1 .taken)) (c .wrapping-add-u64 .ensures)
-
-add-sum : tie.Need-add-sum
-add-sum c =
-    let a = c .before .args in
-    let p = c .before .pre in
-    omega (arith, sum-fits (a .m) (a .a) (a .b) (c .if1 .left) (p .0) (p .1 .0) (p .1 .1))
-
-returns-2 : tie.Need-returns-2
-returns-2 c = sum-small _ _ _ (c .before .if1 .left) (c .if2 .taken)
-
-returns-3 : tie.Need-returns-3
-returns-3 c =
-    let p = c .before .before .pre in
-    sum-large _ _ _ (c .before .if1 .left) (p .1 .0) (p .1 .1) (omega (arith, c .if2 .left))
+returns c =
+    let s = c .before .before .before in
+    let t = c .before .wrapping-sub-u64 in
+    sum-reduced (s .args .m) (s .args .a) (s .args .b) (t .result) _ (s .pre .0) (s .pre .1 .0) (s .pre .1 .1) (omega arith)
+    (t .ensures ∙ c .before .before .wrapping-add-u64 .ensures) (c .wrapping-add-u642 .ensures)
 
 pub add-spec : {M : Type 1} → statement M
-add-spec = tie.close (tie.spec wrapping-add-u64-requires returns add-sum returns-2 returns-3)
+add-spec =
+    tie.close
+    (tie.spec
+    wrapping-add-u64-requires
+    wrapping-sub-u64-requires
+    mul-wrapping-add-u64
+    wrapping-add-u64-requires-2
+    returns)

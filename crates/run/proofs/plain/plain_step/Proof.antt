@@ -1,84 +1,121 @@
--- `run::plain::plain_step` meets its contract. The loop's invariant is `Summing`: the first i registers are the sums of their pairs.
+-- `run::plain::plain_step` meets its contract. The loop's invariant is `Summing`: the registers of the additions that are left, behind
+-- those that are made, are the step's.
 -- Assumes nothing.
-use Prim.Native.Nat.{suc, _-_, _≤_}
+use Prim.Native.Nat.{_+_, _-_, _≤_, _<_}
 use native.Mathlib.Omega.{arith}
+use borrow.Author.Needs.{needs}
 use lib.ListN.{getD}
-use Rattle.run.proofs.PlainStepping.{Summing, summing-start, summing-next, summing-end}
+use Rattle.ladder.specs.Registers.{modulus}
+use Rattle.ladder.specs.Walk.{bitsOf}
+use Rattle.run.proofs.PlainStepping.{Summing, doubled-room, summing-start, summing-room, summing-next, summing-end}
 use Rattle.run.proofs.plain.plain_step.Statement.{statement}
 use Rattle.run.proofs.plain.plain_step.Tie as tie
 
 abbrev Inv-loop : tie.InvT-loop
-Inv-loop m d old xs ys new₀ i₀ new i = Summing m d xs ys old new i
+Inv-loop m d r old new₀ x₀ k₀ new x k = Summing m d r old new x k
 
 abbrev μ-loop : tie.MeasureT-loop
-μ-loop m d old xs ys new₀ i₀ new i = suc d - i
+μ-loop m d r old new₀ x₀ k₀ new x k = d - k
 
--- A pair is one of d + 1, and its rows are inside.
-inside : (c : tie.In-loop Inv-loop μ-loop)
-    → (c .before .loop .i ≤ c .before .before .before .before .args .d)
-    × (getD (c .before .before .before .before .args .pairs .x) (c .before .loop .i) 0 ≤ c .before .before .before .before .args .d)
-    × (getD (c .before .before .before .before .args .pairs .y) (c .before .loop .i) 0 ≤ c .before .before .before .before .args .d)
-    × (c .before .before .before .before .args .d ≤ 8)
-inside c =
-    let asks = c .before .before .before .before .pre in
-    let h = c .loop-test .taken in
-    (h, asks .xInside (c .before .loop .i) h, asks .yInside (c .before .loop .i) h, asks .dHigh)
+-- What the function got, at the loop's head.
+abbrev entered : tie.At-loop Inv-loop μ-loop → tie.Start Inv-loop μ-loop
+entered l = l .before .before .before
+
+-- The row that is doubled is one of d + 1, and its register an element.
+first : (c : tie.After-ones-in Inv-loop μ-loop)
+    → (c .ones-in .result ≤ 8) × (getD (c .before .args .t4) (c .ones-in .result) 0 < modulus (c .before .args .m))
+first c =
+    let s = c .before in
+    let row = doubled-room (s .pre) (s .args .r) _ (c .ones-in .ensures) in
+    (omega (arith, row .0, s .pre .dHigh), row .1)
+
+-- What the bit takes from x is there, and row y is at most row d.
+room : (c : tie.After-bit Inv-loop μ-loop)
+    → (c .bit .result ≤ c .before .before .loop .x)
+    × (c .before .before .loop .x + c .before .before .loop .k < entered (c .before .before) .args .d + c .bit .result)
+    × (entered (c .before .before) .args .d ≤ 8)
+room c =
+    let l = c .before .before in
+    let s = entered l in
+    let inside = summing-room (s .pre) (s .args .r) (l .loop .inv) (c .before .loop-test .taken) in
+    (omega (arith, c .bit .ensures), omega (arith, c .bit .ensures), s .pre .dHigh)
+
+ones-in-requires : tie.Need-ones-in-requires Inv-loop μ-loop
+ones-in-requires c κs = c .pre .dHigh
+
+mul-add : tie.Need-mul-add Inv-loop μ-loop
+mul-add c = omega (arith, first c)
+
+array-read-add : tie.Need-array-read-add Inv-loop μ-loop
+array-read-add c = omega (arith, first c)
+
+mul-add-2 : tie.Need-mul-add-2 Inv-loop μ-loop
+mul-add-2 c = omega (arith, first c)
+
+array-read-add-2 : tie.Need-array-read-add-2 Inv-loop μ-loop
+array-read-add-2 c = omega (arith, first c)
+
+add-requires : tie.Need-add-requires Inv-loop μ-loop
+add-requires c κs = (c .before .pre .mHigh, (first c .1, first c .1))
+
+array-write-new : tie.Need-array-write-new Inv-loop μ-loop
+array-write-new c = search needs
 
 loop-holds : tie.Need-loop-holds Inv-loop μ-loop
 loop-holds c =
-    let a = c .before .before .args in
-    summing-start (a .m) (a .d) (a .pairs .x) (a .pairs .y) (a .t4)
+    let s = c .before .before in
+    summing-start (s .pre) (s .args .r) _ (c .before .ones-in .ensures) (c .add .result) (c .add .ensures)
 
-array-read-x : tie.Need-array-read-x Inv-loop μ-loop
-array-read-x c = omega (arith, inside c)
+bit-requires : tie.Need-bit-requires Inv-loop μ-loop
+bit-requires c κs = (c .loop-test .taken, entered (c .before) .pre .dHigh)
 
-cast-x : tie.Need-cast-x Inv-loop μ-loop
-cast-x c = omega (arith, inside c)
+sub-x : tie.Need-sub-x Inv-loop μ-loop
+sub-x c = omega (arith, room c)
 
-array-read-y : tie.Need-array-read-y Inv-loop μ-loop
-array-read-y c = omega (arith, inside c)
+add-k : tie.Need-add-k Inv-loop μ-loop
+add-k c = omega (arith, room c)
 
-cast-y : tie.Need-cast-y Inv-loop μ-loop
-cast-y c = omega (arith, inside c)
+add-y : tie.Need-add-y Inv-loop μ-loop
+add-y c = omega (arith, room c)
 
-mul-add : tie.Need-mul-add Inv-loop μ-loop
-mul-add c = omega (arith, inside c)
+mul-add-3 : tie.Need-mul-add-3 Inv-loop μ-loop
+mul-add-3 c = omega (arith, room c)
 
-array-read-add : tie.Need-array-read-add Inv-loop μ-loop
-array-read-add c = omega (arith, inside c)
+array-read-add-3 : tie.Need-array-read-add-3 Inv-loop μ-loop
+array-read-add-3 c = omega (arith, room c)
 
-mul-add-2 : tie.Need-mul-add-2 Inv-loop μ-loop
-mul-add-2 c = omega (arith, inside c)
+mul-add-4 : tie.Need-mul-add-4 Inv-loop μ-loop
+mul-add-4 c = omega (arith, room c)
 
-array-read-add-2 : tie.Need-array-read-add-2 Inv-loop μ-loop
-array-read-add-2 c = omega (arith, inside c)
+array-read-add-4 : tie.Need-array-read-add-4 Inv-loop μ-loop
+array-read-add-4 c = omega (arith, room c)
 
-add-requires : tie.Need-add-requires Inv-loop μ-loop
-add-requires c κs =
-    let asks = c .before .before .before .before .pre in
-    (asks .mHigh, (asks .below _ (omega (arith, inside c)), asks .below _ (omega (arith, inside c))))
+add-requires-2 : tie.Need-add-requires-2 Inv-loop μ-loop
+add-requires-2 c κs =
+    let p = entered (c .before .before) .pre in
+    (p .mHigh, (p .below _ (omega (arith, room c)), p .below _ (omega (arith, room c))))
 
 mul-new : tie.Need-mul-new Inv-loop μ-loop
-mul-new c = omega (arith, inside (c .before))
+mul-new c = omega (arith, room (c .before))
 
-array-write-new : tie.Need-array-write-new Inv-loop μ-loop
-array-write-new c = omega (arith, inside (c .before))
-
-add-i : tie.Need-add-i Inv-loop μ-loop
-add-i c = omega (arith, inside (c .before))
+array-write-new-2 : tie.Need-array-write-new-2 Inv-loop μ-loop
+array-write-new-2 c = omega (arith, room (c .before))
 
 loop-less : tie.Need-loop-less Inv-loop μ-loop
-loop-less c = omega (arith, inside (c .before))
+loop-less c = omega (arith, room (c .before))
 
 loop-again : tie.Need-loop-again Inv-loop μ-loop
 loop-again c =
-    let a = c .before .before .before .before .before .args in
-    let at = inside (c .before) in
-    summing-next (a .m) (a .d) (a .pairs .x) (a .pairs .y) (a .t4) (c .before .before .loop .inv)
-    (c .before .before .before .before .before .pre .dHigh) (at .0) (at .1) (at .2) (c .add .result) (c .add .ensures)
+    let b = c .before in
+    let l = b .before .before in
+    let s = entered l in
+    summing-next (s .pre) (s .args .r) (l .loop .inv) (b .before .loop-test .taken) _ (omega (arith, room b, b .bit .ensures))
+    (c .add2 .result) (c .add2 .ensures)
 
 returns : tie.Need-returns Inv-loop μ-loop
-returns c = summing-end (c .before .loop .inv) (omega arith)
+returns c =
+    let s = entered (c .before) in
+    summing-end (s .pre) (s .args .r) (c .before .loop .inv) (search needs)
 
 pub plain-step-spec : {M : Type 1} → statement M
 plain-step-spec =
@@ -86,19 +123,25 @@ plain-step-spec =
     (tie.spec
     Inv-loop
     μ-loop
-    loop-holds
-    array-read-x
-    cast-x
-    array-read-y
-    cast-y
+    ones-in-requires
     mul-add
     array-read-add
     mul-add-2
     array-read-add-2
     add-requires
-    mul-new
     array-write-new
-    add-i
+    loop-holds
+    bit-requires
+    sub-x
+    add-k
+    add-y
+    mul-add-3
+    array-read-add-3
+    mul-add-4
+    array-read-add-4
+    add-requires-2
+    mul-new
+    array-write-new-2
     loop-less
     loop-again
     returns)

@@ -4,7 +4,7 @@ use Prim.Native.Nat.{_-_}
 use native.Mathlib.Omega.{arith}
 use borrow.Author.Needs.{needs}
 use Rattle.ladder.proofs.Bits.{bits-room}
-use Rattle.run.proofs.PlainStepping.{PlainRunning, running-start, running-next, running-end, can-step}
+use Rattle.run.proofs.PlainStepping.{PlainRunning, running-start, running-next, running-end}
 use Rattle.run.proofs.plain.plain_steps.Statement.{statement}
 use Rattle.run.proofs.plain.plain_steps.Tie as tie
 
@@ -24,13 +24,10 @@ step-bits-requires c κs =
     let h = c .loop-test .taken in
     (asks .dHigh, (omega (arith, asks .lHigh), bits-room (a .d) (a .l) (c .before .loop .s) _ h (asks .bits)))
 
-step-pairs-requires : tie.Need-step-pairs-requires Inv-loop μ-loop
-step-pairs-requires c κs = c .before .before .before .before .pre .dHigh
-
 plain-step-requires : tie.Need-plain-step-requires Inv-loop μ-loop
 plain-step-requires c κs =
-    let asks = c .before .before .before .before .before .pre in
-    can-step (c .before .step-bits .result) (asks .dHigh) (asks .mHigh) (c .before .before .before .loop .inv .below) (c .step-pairs .ensures)
+    let asks = c .before .before .before .before .pre in
+    record { dHigh = asks .dHigh; mHigh = asks .mHigh; below = c .before .before .loop .inv .below }
 
 add-s : tie.Need-add-s Inv-loop μ-loop
 add-s c = search needs
@@ -40,10 +37,8 @@ loop-less c = search needs
 
 loop-again : tie.Need-loop-again Inv-loop μ-loop
 loop-again c =
-    running-next (c .before .before .before .before .loop .inv) (c .before .before .before .loop-test .taken)
-    (c .before .before .step-bits .result) (c .before .before .step-bits .ensures)
-    (c .before .step-pairs .result) (c .before .step-pairs .ensures)
-    (c .plain-step .result) (c .plain-step .ensures)
+    running-next (c .before .before .before .loop .inv) (c .before .before .loop-test .taken)
+    (c .before .step-bits .result) (c .before .step-bits .ensures) (c .plain-step .result) (c .plain-step .ensures)
 
 returns : tie.Need-returns Inv-loop μ-loop
 returns c = running-end (c .before .loop .inv) (c .loop-test .left)
@@ -56,7 +51,6 @@ plain-steps-spec =
     μ-loop
     loop-holds
     step-bits-requires
-    step-pairs-requires
     plain-step-requires
     add-s
     loop-less

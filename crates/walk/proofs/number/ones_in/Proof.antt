@@ -1,14 +1,13 @@
 -- `walk::number::ones_in` meets its contract. The loop's invariant: the ones counted and those left are all of them.
 -- Assumes nothing.
 use Prim.Native.Nat.{_+_, _-_, _≤_}
-use mathlib.Core.Logic.{⊎-elim}
 use mathlib.Core.Path.{_≡_}
 use native.Mathlib.Omega.{arith}
 use borrow.Author.Needs.{needs}
 use lib.ListN.{drop}
 use Rattle.ladder.specs.Lists.{ones}
 use Rattle.ladder.specs.Walk.{bitsOf}
-use Rattle.walk.proofs.StepBits.{bit-below, ones-left, no-ones-left, ones-room}
+use Rattle.walk.proofs.StepBits.{ones-left, no-ones-left, ones-room}
 use Rattle.walk.proofs.number.ones_in.Statement.{statement}
 use Rattle.walk.proofs.number.ones_in.Tie as tie
 
@@ -26,9 +25,9 @@ bit-requires c κs = search needs
 
 add-h : tie.Need-add-h Inv-loop μ-loop
 add-h c =
-    let a = c .before .before .before .before .args in
-    let k = c .before .before .before .loop .k in
-    omega (arith, ones-left (a .d) (a .r) k (c .before .before .loop-test .taken), ones-room (a .d) (a .r) 0 (omega arith))
+    let a = c .before .before .before .args in
+    let k = c .before .before .loop .k in
+    omega (arith, ones-left (a .d) (a .r) k (c .before .loop-test .taken), ones-room (a .d) (a .r) 0 (omega arith))
 
 add-k : tie.Need-add-k Inv-loop μ-loop
 add-k c = search needs
@@ -38,11 +37,9 @@ loop-less c = search needs
 
 loop-again : tie.Need-loop-again Inv-loop μ-loop
 loop-again c =
-    let a = c .before .before .before .before .args in
-    let k = c .before .before .before .loop .k in
-    let left = ones-left (a .d) (a .r) k (c .before .before .loop-test .taken) in
-    let below = bit-below (a .d) (a .r) k in
-    ⊎-elim (λ w. omega arith) (λ w. omega arith) (c .if1 .came)
+    let a = c .before .before .before .args in
+    let left = ones-left (a .d) (a .r) (c .before .before .loop .k) (c .before .loop-test .taken) in
+    omega arith
 
 returns : tie.Need-returns Inv-loop μ-loop
 returns c =

@@ -6,7 +6,6 @@ use native.Mathlib.Omega.{arith}
 use borrow.Author.Needs.{needs}
 use lib.ListN.{length}
 use Rattle.walk.specs.WalkState.{walkState}
-use Rattle.walk.proofs.Stepping.{columns-next}
 use Rattle.walk.proofs.Tracing.{Tracing, tracing-start, bits-there, counts-small, block-room, additions-room, tracing-next, tracing-end}
 use Rattle.walk.proofs.steps.trace_steps.Statement.{statement}
 use Rattle.walk.proofs.steps.trace_steps.Tie as tie
@@ -40,61 +39,46 @@ step-bits-requires c κs =
     let asks = l .before .before .before .pre in
     (l .loop .inv .ready .high, (omega (arith, asks .last), bits-there asks (l .loop .inv) (omega (arith, c .loop-test .taken))))
 
-advance-requires : tie.Need-advance-requires Inv-loop μ-loop
-advance-requires c κs = c .before .before .loop .inv .ready
-
 write-block-requires : tie.Need-write-block-requires Inv-loop μ-loop
 unfolding walkState
-write-block-requires c κs =
-    let l = c .before .before .before .before .before .before in
-    let t = l .loop .inv in
-    let next = c .before .before .before .advance .ensures in (
-      t .ready .high,
-      (
-        columns-next (t .ready) _ _ next,
-        room (c .before .before .before .before) .0,
-      ),
-    )
+write-block-requires c κs = (c .before .before .before .loop .inv .ready, room (c .before) .0)
 
 add-at : tie.Need-add-at Inv-loop μ-loop
 unfolding walkState
 add-at c =
-    let small = c .before .before .before .before .before .before .before .before .before .loop .inv .ready .high in
+    let small = c .before .before .before .before .before .before .loop .inv .ready .high in
     omega arith
 
 add-at-2 : tie.Need-add-at-2 Inv-loop μ-loop
 unfolding walkState
 add-at-2 c =
-    let small = c .before .before .before .before .before .before .before .before .before .loop .inv .ready .high in
+    let small = c .before .before .before .before .before .before .loop .inv .ready .high in
     omega arith
 
 mul-at : tie.Need-mul-at Inv-loop μ-loop
-mul-at c = omega (arith, room (c .before .before .before .before .before .before .before))
+mul-at c = omega (arith, room (c .before .before .before .before))
 
 add-at-3 : tie.Need-add-at-3 Inv-loop μ-loop
-add-at-3 c = omega (arith, room (c .before .before .before .before .before .before .before))
+add-at-3 c = omega (arith, room (c .before .before .before .before))
 
 add-doublings : tie.Need-add-doublings Inv-loop μ-loop
 unfolding walkState
 add-doublings c =
-    let l = c .before .before .before .before .before .before .before .before .before in
+    let l = c .before .before .before .before .before .before in
     omega (arith, counts-small (l .before .before .before .pre) (l .loop .inv))
 
 add-additions : tie.Need-add-additions Inv-loop μ-loop
 unfolding walkState
 add-additions c =
-    let l = c .before .before .before .before .before .before .before .before .before .before in
+    let l = c .before .before .before .before .before .before .before in
     omega (
       arith,
-      additions-room (l .before .before .before .pre) (l .loop .inv)
-          (omega (arith, c .before .before .before .before .before .before .before .before .before .loop-test .taken)) _
-          (c .before .before .before .before .before .before .before .before .step-bits .ensures),
+      additions-room (l .before .before .before .pre) (l .loop .inv) (omega (arith, c .before .before .before .before .before .before .loop-test .taken)) _
+          (c .before .before .before .before .before .step-bits .ensures),
     )
 
 add-s : tie.Need-add-s Inv-loop μ-loop
-add-s c =
-    let l = c .before .before .before .before .before .before .before .before .before .before in
-    omega (arith, l .before .before .before .pre .last)
+add-s c = omega (arith, c .before .before .before .before .before .before .before .before .before .before .pre .last)
 
 loop-less : tie.Need-loop-less Inv-loop μ-loop
 loop-less c = search needs
@@ -102,12 +86,10 @@ loop-less c = search needs
 loop-again : tie.Need-loop-again Inv-loop μ-loop
 unfolding walkState
 loop-again c =
-    let l = c .before .before .before .before .before .before .before .before .before .before in
-    tracing-next (l .before .before .before .pre) (l .loop .inv)
-    (omega (arith, c .before .before .before .before .before .before .before .before .before .loop-test .taken)) _
-    (c .before .before .before .before .before .before .before .before .step-bits .ensures) _ _
-    (c .before .before .before .before .before .before .before .advance .ensures)
-    (c .before .before .before .write-block .ensures)
+    let l = c .before .before .before .before .before .before .before in
+    let written = c .before .before .before .write-block .ensures in
+    tracing-next (l .before .before .before .pre) (l .loop .inv) (omega (arith, c .before .before .before .before .before .before .loop-test .taken)) _
+    (c .before .before .before .before .before .step-bits .ensures) _ _ (written .0) (written .1)
 
 same-length : tie.Need-same-length Inv-loop μ-loop
 same-length c = c .before .loop .inv .long
@@ -124,7 +106,6 @@ trace-steps-spec =
     μ-loop
     loop-holds
     step-bits-requires
-    advance-requires
     write-block-requires
     add-at
     add-at-2

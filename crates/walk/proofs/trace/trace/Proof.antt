@@ -6,7 +6,7 @@ use Rattle.ladder.specs.Numbers.{startLength}
 use Rattle.ladder.specs.Plan.{Plan, startOrder}
 use Rattle.ladder.proofs.Operations.{TraceOk, trace-none}
 use Rattle.ladder.proofs.Tests.{refusing-no, refusing-yes}
-use Rattle.walk.specs.Inner.WalkTrace.{walkEntries, CanTrace, Traced}
+use Rattle.walk.specs.Inner.WalkTrace.{walkEntries, CanTrace, TraceLeft}
 use Rattle.walk.proofs.PlanWalk.{can-trace, traced-in}
 use Rattle.walk.proofs.Starting.{started-is}
 use borrow.Author.Needs.{needs}
@@ -72,7 +72,7 @@ returns-2 c =
     let out = c .before .before .trace-steps .last .1 .1 .1 .1 .0 in
     let t =
     traced-in p (ok .plan .plan) out (n .doublings) (n .additions)
-    (subst (λ w. Traced (walkEntries w (p .bits) 0 (p .l - 0)) out (n .doublings) (n .additions))
+    (subst (λ w. TraceLeft (walkEntries w (p .bits) 0 (p .l - 0)) out (n .doublings) (n .additions))
     (s .start-walk .ensures ∙ started-is (p .d) (p .start) (startOrder p) (ok .plan .plan .columns))
     (c .before .before .trace-steps .ensures)) in
     let yes = e .if1 .left in
