@@ -1,0 +1,260 @@
+//! The proved calls: what the archive declares, and each with the signature that its plain form has. A lent slice is a pointer and a
+//! length.
+mod c {
+    extern "C" {
+        pub fn immarduzh_encode(
+            d: u64,
+            l: u64,
+            scalars: *const u64,
+            scalars_length: usize,
+            start: *mut u8,
+            start_length: usize,
+            bits: *mut u8,
+            bits_length: usize,
+            row: *mut u64,
+        ) -> u64;
+
+        pub fn immarduzh_decode(
+            d: u64,
+            l: u64,
+            start: *const u8,
+            start_length: usize,
+            bits: *const u8,
+            bits_length: usize,
+            row: u64,
+            values: *mut u64,
+            values_length: usize,
+        ) -> u64;
+
+        pub fn immarduzh_check(
+            d: u64,
+            l: u64,
+            start: *const u8,
+            start_length: usize,
+            bits: *const u8,
+            bits_length: usize,
+            row: u64,
+            scalars: *const u64,
+            scalars_length: usize,
+            yes: *mut u64,
+        ) -> u64;
+
+        pub fn immarduzh_trace(
+            d: u64,
+            l: u64,
+            start: *const u8,
+            start_length: usize,
+            bits: *const u8,
+            bits_length: usize,
+            row: u64,
+            out: *mut u8,
+            out_length: usize,
+            doublings: *mut u64,
+            additions: *mut u64,
+        ) -> u64;
+
+        pub fn immarduzh_plain_run(
+            d: u64,
+            l: u64,
+            start: *const u8,
+            start_length: usize,
+            bits: *const u8,
+            bits_length: usize,
+            row: u64,
+            m: u64,
+            elements: *const u64,
+            elements_length: usize,
+            registers: *mut u64,
+            registers_length: usize,
+            answer: *mut u64,
+            doublings: *mut u64,
+            additions: *mut u64,
+        ) -> u64;
+
+        pub fn immarduzh_difference_run(
+            d: u64,
+            l: u64,
+            start: *const u8,
+            start_length: usize,
+            bits: *const u8,
+            bits_length: usize,
+            row: u64,
+            m: u64,
+            elements: *const u64,
+            elements_length: usize,
+            registers: *mut u64,
+            registers_length: usize,
+            answer: *mut u64,
+            doublings: *mut u64,
+            additions: *mut u64,
+        ) -> u64;
+    }
+}
+
+pub fn encode(
+    d: u64,
+    l: u64,
+    scalars: &[u64],
+    start: &mut [u8],
+    bits: &mut [u8],
+    row: &mut u64,
+) -> u64 {
+    // Safe: every pointer comes with the length of what it points to, and is not kept.
+    unsafe {
+        c::immarduzh_encode(
+            d,
+            l,
+            scalars.as_ptr(),
+            scalars.len(),
+            start.as_mut_ptr(),
+            start.len(),
+            bits.as_mut_ptr(),
+            bits.len(),
+            row,
+        )
+    }
+}
+
+pub fn decode(d: u64, l: u64, start: &[u8], bits: &[u8], row: u64, values: &mut [u64]) -> u64 {
+    // Safe: as in encode.
+    unsafe {
+        c::immarduzh_decode(
+            d,
+            l,
+            start.as_ptr(),
+            start.len(),
+            bits.as_ptr(),
+            bits.len(),
+            row,
+            values.as_mut_ptr(),
+            values.len(),
+        )
+    }
+}
+
+pub fn check(
+    d: u64,
+    l: u64,
+    start: &[u8],
+    bits: &[u8],
+    row: u64,
+    scalars: &[u64],
+    yes: &mut u64,
+) -> u64 {
+    // Safe: as in encode.
+    unsafe {
+        c::immarduzh_check(
+            d,
+            l,
+            start.as_ptr(),
+            start.len(),
+            bits.as_ptr(),
+            bits.len(),
+            row,
+            scalars.as_ptr(),
+            scalars.len(),
+            yes,
+        )
+    }
+}
+
+#[allow(clippy::too_many_arguments)]
+pub fn trace(
+    d: u64,
+    l: u64,
+    start: &[u8],
+    bits: &[u8],
+    row: u64,
+    out: &mut [u8],
+    doublings: &mut u64,
+    additions: &mut u64,
+) -> u64 {
+    // Safe: as in encode.
+    unsafe {
+        c::immarduzh_trace(
+            d,
+            l,
+            start.as_ptr(),
+            start.len(),
+            bits.as_ptr(),
+            bits.len(),
+            row,
+            out.as_mut_ptr(),
+            out.len(),
+            doublings,
+            additions,
+        )
+    }
+}
+
+#[allow(clippy::too_many_arguments)]
+pub fn plain_run(
+    d: u64,
+    l: u64,
+    start: &[u8],
+    bits: &[u8],
+    row: u64,
+    m: u64,
+    elements: &[u64],
+    registers: &mut [u64],
+    answer: &mut u64,
+    doublings: &mut u64,
+    additions: &mut u64,
+) -> u64 {
+    // Safe: as in encode.
+    unsafe {
+        c::immarduzh_plain_run(
+            d,
+            l,
+            start.as_ptr(),
+            start.len(),
+            bits.as_ptr(),
+            bits.len(),
+            row,
+            m,
+            elements.as_ptr(),
+            elements.len(),
+            registers.as_mut_ptr(),
+            registers.len(),
+            answer,
+            doublings,
+            additions,
+        )
+    }
+}
+
+#[allow(clippy::too_many_arguments)]
+pub fn difference_run(
+    d: u64,
+    l: u64,
+    start: &[u8],
+    bits: &[u8],
+    row: u64,
+    m: u64,
+    elements: &[u64],
+    registers: &mut [u64],
+    answer: &mut u64,
+    doublings: &mut u64,
+    additions: &mut u64,
+) -> u64 {
+    // Safe: as in encode.
+    unsafe {
+        c::immarduzh_difference_run(
+            d,
+            l,
+            start.as_ptr(),
+            start.len(),
+            bits.as_ptr(),
+            bits.len(),
+            row,
+            m,
+            elements.as_ptr(),
+            elements.len(),
+            registers.as_mut_ptr(),
+            registers.len(),
+            answer,
+            doublings,
+            additions,
+        )
+    }
+}
