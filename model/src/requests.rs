@@ -333,8 +333,8 @@ impl Numbers<'_> {
         numbers
     }
 
-    /// The next request, and how much it lends.
-    fn request(&mut self) -> (Request, Lent) {
+    /// The next request, and how much it lends, unless the text ends before that is said.
+    fn request(&mut self) -> Option<(Request, Lent)> {
         let call = self.next();
         let (d, l, row) = (self.next(), self.next(), self.next());
         let lent = Lent {
@@ -343,6 +343,9 @@ impl Numbers<'_> {
             words: self.next(),
             out: self.next(),
         };
+        if self.ended {
+            return None;
+        }
         let bytes = |numbers: Vec<u64>| numbers.into_iter().map(|n| n as u8).collect();
         let request = Request {
             call,
@@ -358,7 +361,7 @@ impl Numbers<'_> {
             words: self.some(lent.words),
             out: lent.out as usize,
         };
-        (request, lent)
+        Some((request, lent))
     }
 }
 
@@ -367,11 +370,12 @@ pub fn answers(text: &str) -> String {
     let mut numbers = Numbers::of(text);
     let mut lines = String::new();
     for _ in 0..numbers.next() {
-        let (request, lent) = numbers.request();
-        if lent.too_much(request.call) {
-            lines += &lent.line();
-        } else if !numbers.ended {
-            lines += &(request.line() + "\n");
+        if let Some((request, lent)) = numbers.request() {
+            if lent.too_much(request.call) {
+                lines += &lent.line();
+            } else if !numbers.ended {
+                lines += &(request.line() + "\n");
+            }
         }
         if numbers.ended {
             return lines + "the input ends within a request\n";

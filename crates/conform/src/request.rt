@@ -60,6 +60,9 @@ pub struct Lent {
 fn read_bytes(text: &mut [u8], at: usize, start: &mut [u8], bits: &mut [u8]) -> usize {
     let after_start = stream::bytes(text, at, start);
     let after_bits = stream::bytes(text, after_start, bits);
+    if after_bits == text.len() {
+        return after_bits;
+    }
     stream::refill(text, after_bits)
 }
 
@@ -100,6 +103,9 @@ fn answer_held(text: &mut [u8], at: usize, head: [u64; 8], lent: Lent) -> usize 
 pub fn answer(text: &mut [u8], at: usize) -> usize {
     let mut head = [0u64; 8];
     let next = numbers::words(text, at, &mut head);
+    if next == text.len() {
+        return next;
+    }
     let lent = Lent {
         start: head[4],
         bits: head[5],
