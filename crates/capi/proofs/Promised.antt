@@ -1,11 +1,11 @@
 -- What the place of a body is good for: it is that of the library's part, and lies within the file.
 -- Assumes nothing.
-use Prim.Native.Nat.{ℕ, zero, suc, _+_, _-_, _≤_}
+use Prim.Native.Nat.{ℕ, zero, suc, _+_, _≤_}
 use mathlib.Core.Path.{_≡_, refl, sym, ap, _∙_}
 use mathlib.Core.List.{List, []}
 use native.Mathlib.Omega.{arith}
 use lib.ListN.{length}
-use Rattle.ladder.specs.PlanFile.{trailerSize, distanceIn, bodyPlace, bodyIn}
+use Rattle.ladder.specs.PlanFile.{trailerSize, bodyPlace, bodyIn}
 use Rattle.ladder.specs.Refusals.{refusing}
 use Rattle.ladder.proofs.Operations.{UnpackOk, unpack-none}
 use Rattle.ladder.proofs.AcceptedFiles.{body-long}

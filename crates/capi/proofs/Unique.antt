@@ -11,13 +11,16 @@ use Rattle.ladder.proofs.Tests.{refusing-same}
 use Rattle.encode.specs.declared.call.Encoded.{Encoded}
 use Rattle.encode.specs.Promise.{EncodePromise}
 use Rattle.encode.proofs.Unique as encoding
-use Rattle.decode.specs.declared.checking.Checked.{Checked}
 use Rattle.decode.specs.Promise.{DecodePromise}
 use Rattle.decode.proofs.Unique as decoding
+use Rattle.checking.specs.declared.call.Checked.{Checked}
+use Rattle.checking.proofs.Unique as checking
 use Rattle.walk.specs.declared.step.Stepped.{Stepped}
-use Rattle.walk.specs.declared.trace.Traced.{Traced}
-use Rattle.walk.specs.Promise.{StepPromise, TracePromise}
+use Rattle.walk.specs.Promise.{StepPromise}
 use Rattle.walk.proofs.Unique as walking
+use Rattle.trace.specs.declared.call.Traced.{Traced}
+use Rattle.trace.specs.Promise.{TracePromise}
+use Rattle.trace.proofs.Unique as tracing
 use Rattle.run.specs.declared.answer.Ran.{Ran}
 use Rattle.run.specs.Promise.{RunPromise, PlainPromise, DifferencePromise}
 use Rattle.run.proofs.Unique as running
@@ -48,7 +51,7 @@ decode-unique x y = decoding.decode-unique x y
 pub check-unique : {p : Plan} {scalars : List ℕ} {r s said saidOther : ℕ}
     → CheckNumberPromise p scalars r said → CheckNumberPromise p scalars s saidOther → (r ≡ s) × (said ≡ saidOther)
 check-unique x y =
-    let u = decoding.check-unique (x .said-is) (y .said-is) in
+    let u = checking.check-unique (x .said-is) (y .said-is) in
     (ap (λ (a : Checked). a .refusal) u, x .yes-is ∙ ap (λ (a : Checked). cond (a .yes) 1 0) u ∙ sym (y .yes-is))
 
 -- Step.
@@ -65,7 +68,7 @@ pub trace-unique : {p : Plan} {out : List ℕ} {r s doublings doublingsOther add
     → TracePromise p out (traced r doublings additions) outAfter → TracePromise p out (traced s doublingsOther additionsOther) outOther
     → (r ≡ s) × (doublings ≡ doublingsOther) × (additions ≡ additionsOther) × (outAfter ≡ outOther)
 trace-unique x y =
-    let u = walking.trace-unique x y in (
+    let u = tracing.trace-unique x y in (
       ap (λ (a : Traced). a .refusal) (u .0),
       ap (λ (a : Traced). a .doublings) (u .0),
       ap (λ (a : Traced). a .additions) (u .0),

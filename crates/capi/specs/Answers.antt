@@ -6,10 +6,10 @@ use mathlib.Core.Bool.{Bool}
 use mathlib.Core.List.{List}
 use lib.IntN.{ℤ}
 use Rattle.encode.specs.declared.call.Encoded.{Encoded}
-use Rattle.decode.specs.declared.checking.Checked.{Checked}
+use Rattle.checking.specs.declared.call.Checked.{Checked}
 use Rattle.walk.specs.declared.state.Walk.{Walk}
 use Rattle.walk.specs.declared.step.Stepped.{Stepped}
-use Rattle.walk.specs.declared.trace.Traced.{Traced}
+use Rattle.trace.specs.declared.call.Traced.{Traced}
 use Rattle.run.specs.declared.answer.Ran.{Ran}
 use Rattle.planfile.specs.declared.unpacking.Unpacked.{Unpacked}
 use Rattle.listing.specs.declared.call.Listed.{Listed}

@@ -8,7 +8,7 @@ use lib.ListN.{length}
 use Rattle.ladder.specs.Plan.{Plan}
 use Rattle.ladder.specs.PlanFile.{bodyPlace, bodyIn}
 use Rattle.ladder.specs.Refusals.{refusing, unpackRefusal}
-use Rattle.decode.specs.Promise.{CheckPromise}
+use Rattle.checking.specs.Promise.{CheckPromise}
 use Rattle.capi.specs.Answers.{checked}
 
 -- Check, as the library promises it, with 1 for its yes and 0 for its no. With d 1, l 1, start order 1, bits 80, row 2 and the scalar 1:

@@ -1,7 +1,8 @@
 // Step and trace.
 use plan::Walk;
 ghost use Rattle.ladder.specs.Plan.{planLent};
-ghost use Rattle.walk.specs.Promise.{StepPromise, TracePromise};
+ghost use Rattle.walk.specs.Promise.{StepPromise};
+ghost use Rattle.trace.specs.Promise.{TracePromise};
 ghost use Rattle.capi.specs.Answers.{walk, stepped, traced};
 
 // One step of a paused walk, whose order and signs are stepped in place.

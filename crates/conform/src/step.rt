@@ -1,22 +1,15 @@
 // One line per step of a paused walk, whose order and signs a request has for start and bits.
 use crate::request::Head;
 use plan::Walk;
+use trace::signed_byte;
 use wire::show;
 
-// A byte as a sign, two's complement ..
+// A byte as a sign, two's complement.
 fn sign(b: u8) -> i8 {
     if b < 128 {
         return b as i8;
     }
     (b as i16 - 256) as i8
-}
-
-// .. and back.
-fn byte(s: i8) -> u8 {
-    if s < 0 {
-        return (s as i16 + 256) as u8;
-    }
-    s as u8
 }
 
 // Byte i, 0 past the last.
@@ -40,7 +33,7 @@ fn bytes(signs: [i8; 8]) -> [u8; 8] {
     let mut out = [0u8; 8];
     let mut i: usize = 0;
     while i < 8 {
-        out[i] = byte(signs[i]);
+        out[i] = signed_byte(signs[i]);
         i += 1;
     }
     out

@@ -1,25 +1,24 @@
 -- From the walk's last state and the lower numbers in words to the entries of a row.
 -- Assumes nothing.
-use Prim.Native.Nat.{ℕ, zero, suc, pred, _+_, _-_, _*_, _%_, _^_, _≤_, _<_}
+use Prim.Native.Nat.{ℕ, zero, suc, pred, _+_, _*_, _%_, _^_, _≤_, _<_}
 use mathlib.Core.Path.{_≡_, refl, sym, ap, ap₂, subst, _∙_}
 use mathlib.Core.List.{List, [], _∷_, map}
-use native.Mathlib.Nat.{pow-suc, mod-add-mod, mul-le-mul}
+use native.Mathlib.Nat.{pow-suc, mod-add-mod}
 use native.Mathlib.Decide.{decLe}
 use native.Mathlib.Omega.{arith}
 use lib.IntN.{pos}
-use lib.ListN.{length, getD, take, drop, replicate, length-replicate, take-append-drop, List·getD-eq-default}
+use lib.ListN.{length, getD, take, drop, take-append-drop, List·getD-eq-default}
 use lib.Seq.{take-take, getD-take}
 use Rattle.ladder.specs.Lists.{tabulate, count}
 use Rattle.ladder.specs.Matrix.{Arrangement, orderAfter, signsAfter}
-use Rattle.ladder.specs.Numbers.{numbersOf, wordsOfAll, scalarWords, valueWords, bitsAt}
-use Rattle.ladder.specs.Refusals.{sameNumbers}
+use Rattle.ladder.specs.Numbers.{numbersOf, wordsOfAll, valueWords, bitsAt}
 use Rattle.ladder.specs.Walk.{Walk, orderOf}
 use Rattle.ladder.specs.Inner.Decoding.{walked, walkedEntry}
 use Rattle.ladder.proofs.Lists.{getD-map, length-tabulate, getD-tabulate, tabulate-same, count-append}
 use Rattle.ladder.proofs.Numbers.{numbersOf-wordsOfAll, value-fits, length-wordsOfAll}
 use Rattle.ladder.proofs.Tests.{count-suc}
 use Rattle.walk.specs.Inner.Ready.{Ready, Columns}
-use Rattle.decode.specs.Inner.{Lowered, Raisable, raised, walkedRow, Checkable, rowSame}
+use Rattle.decode.specs.Inner.{Lowered, Raisable, raised, walkedRow}
 use Rattle.decode.proofs.Words.{digit-small}
 
 -- ---- the number that a walk yields
@@ -122,20 +121,3 @@ module _ {w : Walk} {l : ℕ} {bytes order values : List ℕ} (p : Lowered w l b
 
     pub raised-row : wordsOfAll k (raised (w .d) k above values) ≡ wordsOfAll (valueWords l) (walkedRow w l bytes row)
     raised-row = rw words (ap (wordsOfAll (valueWords l)) raised-words)
-
--- ---- comparing
-
--- Values that hold the row, k words each, hold the scalars, n words each, exactly where the row does.
-pub same-row : (w : Walk) (l : ℕ) (bytes : List ℕ) (row : ℕ) (scalars values : List ℕ) (k n : ℕ) → k ≡ valueWords l → n ≡ scalarWords l
-    → values ≡ wordsOfAll (valueWords l) (walkedRow w l bytes row)
-    → sameNumbers (numbersOf (w .d) k values) (numbersOf (w .d) n scalars) ≡ rowSame w l bytes row scalars
-unfolding rowSame
-same-row w l bytes row scalars values k n words own held = rw (words, own, held)
-
--- Eight values of ten words are enough.
-pub scratch-room : {w : Walk} {l : ℕ} {bytes : List ℕ} {row : ℕ} {scalars : List ℕ} → Checkable w l bytes row scalars → w .d * valueWords l ≤ 80
-unfolding valueWords
-scratch-room {w} {l} p =
-    let a = p .begun (replicate (w .d * valueWords l) 0) (length-replicate (w .d * valueWords l) zero) in
-    let k : valueWords l ≤ 10 = omega (arith, a .lHigh) in
-    mul-le-mul (a .ready .high) k

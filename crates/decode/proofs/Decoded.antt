@@ -1,27 +1,25 @@
 -- What decode leaves is the answer row of the last matrix: the walk's row is that row, for every plan that is not refused.
 -- Assumes nothing.
-use Prim.Native.Nat.{ℕ, pred, _-_, _*_}
+use Prim.Native.Nat.{ℕ, pred, _-_}
 use mathlib.Core.Path.{_≡_, sym, ap, ap₂, subst, _∙_}
 use mathlib.Core.List.{List}
 use native.Mathlib.Numerals.{sub-one}
-use native.Mathlib.Omega.{arith}
 use lib.ListN.{length, getD}
 use Rattle.ladder.specs.Lists.{tabulate}
 use Rattle.ladder.specs.Matrix.{startSigns, orderAfter}
-use Rattle.ladder.specs.Numbers.{numbersOf, scalarWords, scalarsLength, valuesLength, valueWords, wordsOfAll}
+use Rattle.ladder.specs.Numbers.{valuesLength, valueWords, wordsOfAll}
 use Rattle.ladder.specs.Plan.{Plan, startOrder, stepBits, orderIn, endOrder, answerRow, valuesIn}
-use Rattle.ladder.specs.Refusals.{scalarsIn, sameNumbers}
 use Rattle.ladder.specs.Walk.{Walk, walkOf, orderOf}
 use Rattle.ladder.specs.Inner.Decoding.{walked, walkedEntry}
 use Rattle.ladder.proofs.Lists.{tabulate-same, tabulate-getD}
 use Rattle.ladder.proofs.Refusals.{Accepted}
 use Rattle.ladder.proofs.Operations.{PlanOk}
 use Rattle.ladder.proofs.Walk.{order-of-walk}
-use Rattle.ladder.proofs.Demand2.{answer-wide, answer-by-walk, decode-words}
+use Rattle.ladder.proofs.Demand2.{answer-wide, answer-by-walk}
 use Rattle.walk.specs.Inner.Ready.{started}
 use Rattle.walk.proofs.PlanWalk.{ready-start}
 use Rattle.walk.proofs.Starting.{started-is}
-use Rattle.decode.specs.Inner.{AtStart, walkedRow, rowSame, Checkable}
+use Rattle.decode.specs.Inner.{AtStart, walkedRow}
 
 -- ---- the walk from a plan's start
 
@@ -73,24 +71,3 @@ at-start p values ok long w e =
 pub started-d : (d : ℕ) (start : List ℕ) (w : Walk) → w ≡ started d start → w .d ≡ d
 unfolding started
 started-d d start w e = ap (λ v. v .d) e
-
--- The row can be compared with the scalars ..
-pub checkable : (p : Plan) (scalars : List ℕ) → PlanOk p → length scalars ≡ scalarsLength (p .d) (p .l) → (w : Walk) → w ≡ started (p .d) (p .start)
-    → Checkable w (p .l) (p .bits) (p .answer - 1) scalars
-unfolding scalarsLength valuesLength
-checkable p scalars ok long w e =
-    let same = started-d (p .d) (p .start) w e in
-    record {
-      inside = omega (arith, same, ok .plan .answerHigh);
-      begun = λ values h. at-start p values ok (h ∙ ap (λ n. n * valueWords (p .l)) same) w e;
-      long = long ∙ ap (λ n. n * scalarWords (p .l)) (sym same);
-    }
-
--- .. and what comparing says is whether the answer row is the scalars.
-pub row-says : (p : Plan) (scalars : List ℕ) → Accepted p → (w : Walk) → w ≡ started (p .d) (p .start)
-    → rowSame w (p .l) (p .bits) (p .answer - 1) scalars ≡ sameNumbers (answerRow p) (scalarsIn (p .d) (p .l) scalars)
-unfolding rowSame scalarsIn
-row-says p scalars ok w e =
-    ap₂ (λ n v. sameNumbers (numbersOf n (valueWords (p .l)) v) (numbersOf n (scalarWords (p .l)) scalars))
-    (started-d (p .d) (p .start) w e) (row-decoded p ok w e)
-    ∙ ap (λ v. sameNumbers v (numbersOf (p .d) (scalarWords (p .l)) scalars)) (decode-words p ok)

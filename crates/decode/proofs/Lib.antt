@@ -1,3 +1,4 @@
+-- Laws of decode.
 pub mod Words
 pub mod Pushing
 pub mod Partly
@@ -7,6 +8,5 @@ pub mod Raising
 pub mod Answering
 pub mod Decoded
 pub mod Judged
-pub mod Equality
 pub mod Unique
 pub mod Promised

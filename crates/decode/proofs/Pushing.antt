@@ -1,15 +1,15 @@
 -- One digit more for each column: as the loop over the places of the new order pushes them, and that they are the digits of the signs.
 -- Assumes nothing.
 use Prim.Native.Nat.{ℕ, zero, suc, pred, _+_, _-_, _*_, _%_, _^_, _≤_, _<_}
-use mathlib.Core.Path.{_≡_, refl, sym, ap, ap₂, subst, _∙_}
+use mathlib.Core.Path.{_≡_, refl, sym, ap, ap₂, _∙_}
 use mathlib.Core.Logic.{inl, ⊎-elim}
-use mathlib.Core.List.{List, [], _∷_, map}
+use mathlib.Core.List.{List, map}
 use native.Mathlib.Nat.{mod-add-mod}
 use native.Mathlib.Decide.{ℕ-discrete, decLt}
 use native.Mathlib.Omega.{arith}
 use lib.IntN.{ℤ, pos, negℤ}
 use lib.ListN.{length, getD, set, take, drop, replicate, length-set, getD-replicate, List·getD-append}
-use lib.Seq.{sets, getD-set-same, getD-set-other}
+use lib.Seq.{getD-set-same, getD-set-other}
 use Rattle.ladder.specs.Matrix.{Arrangement, IsUnit, Units, orderFrom, stepOrder, startSigns, stepSigns, orderAfter, signsAfter}
 use Rattle.ladder.specs.Walk.{bitsOf}
 use Rattle.ladder.specs.Inner.Decoding.{digit, walked}
@@ -21,7 +21,7 @@ use Rattle.ladder.proofs.Walk.{length-bitsOf, length-signsAfter}
 use Rattle.ladder.proofs.WalkSteps.{turn-units}
 use Rattle.walk.specs.Inner.Ready.{Columns}
 use Rattle.walk.proofs.Filling.{Filling, filling-next}
-use Rattle.walk.proofs.Runs.{sets-before}
+use Rattle.ladder.proofs.Writes.{sets-before}
 use Rattle.walk.proofs.Stepping.{places-step}
 use Rattle.decode.specs.Inner.{pushed, Pushed}
 use Rattle.decode.proofs.Words.{digit-small}

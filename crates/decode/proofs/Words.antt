@@ -1,4 +1,4 @@
--- Laws of words under a store.
+-- Laws of words: how they are stored, the digit of a sign, a carry.
 -- Assumes nothing.
 use Prim.Native.Nat.{ℕ, zero, suc, _+_, _*_, _%_, _^_, _≤_, _<_}
 use mathlib.Core.Path.{_≡_, refl, sym, ap, subst, _∙_}

@@ -2,14 +2,13 @@
 -- Assumes nothing.
 use Prim.Native.Nat.{ℕ, zero, suc, pred, _+_, _*_, _/_, _%_, _^_, _≤_, _<_}
 use mathlib.Core.Path.{_≡_}
-use mathlib.Core.Bool.{Bool, cond}
+use mathlib.Core.Bool.{cond}
 use mathlib.Core.List.{List, _++_, map}
 use lib.Dec.{eqb}
 use lib.ListN.{length, getD, set, take, drop}
 use Rattle.ladder.specs.Lists.{tabulate}
 use Rattle.ladder.specs.Matrix.{orderAfter}
-use Rattle.ladder.specs.Numbers.{numberOf, numbersOf, wordsOf, wordsOfAll, bitsLength, scalarWords, valueWords, bitsAt}
-use Rattle.ladder.specs.Refusals.{sameNumbers}
+use Rattle.ladder.specs.Numbers.{numberOf, numbersOf, wordsOf, wordsOfAll, bitsLength, valueWords, bitsAt}
 use Rattle.ladder.specs.Walk.{Walk, orderOf}
 use Rattle.ladder.specs.Inner.Decoding.{walked, walkedEntry}
 use Rattle.walk.specs.Inner.Ready.{Columns, Ready}
@@ -78,14 +77,3 @@ unfoldable pub walkedRow : Walk → ℕ → List ℕ → ℕ → List ℕ
 walkedRow w l bytes i =
     tabulate (w .d)
     (λ j. walkedEntry (walked (w .d) (orderOf w) (bitsAt (w .d) bytes) l j) i (orderAfter (orderOf w) (bitsAt (w .d) bytes) l) j)
-
--- What comparing a row with scalars asks: a row of the matrix, the start state of a walk, and scalars of their length.
-pub record Checkable (w : Walk) (l : ℕ) (bytes : List ℕ) (row : ℕ) (scalars : List ℕ) : Type 0 where
-  pub inside : row ≤ w .d
-  pub begun : (values : List ℕ) → length values ≡ w .d * valueWords l → AtStart w l bytes values
-  pub long : length scalars ≡ w .d * scalarWords l
-
--- Whether the row's words hold the scalars.
-unfoldable pub rowSame : Walk → ℕ → List ℕ → ℕ → List ℕ → Bool
-rowSame w l bytes row scalars =
-    sameNumbers (numbersOf (w .d) (valueWords l) (wordsOfAll (valueWords l) (walkedRow w l bytes row))) (numbersOf (w .d) (scalarWords l) scalars)

@@ -1,3 +1,3 @@
--- `Promise` is what decode and check promise. `Inner` holds what only inner contracts need: no promise rests on it.
+-- `Promise` is what decode promises. `Inner` holds what only inner contracts need: no promise rests on it.
 pub mod Promise
 pub mod Inner

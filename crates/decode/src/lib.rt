@@ -1,14 +1,10 @@
-// Decode and check: the answer row of a plan's last matrix, by a walk of orders and signs. The public calls are those below; the
-// rest is an inside of the library.
-mod answer;
-mod checking;
-mod decoding;
+// Decode: the answer row of a plan's last matrix, by a walk of orders and signs. The public call is `decode`. All else is an inside of
+// the plan library, not to be called from outside: `answer` and `values` are for `check` and `listing`, which hand them what was judged.
+pub mod answer;
+mod call;
 mod digits;
 mod lower;
 mod rows;
-mod same;
 pub mod values;
 
-pub use checking::Checked;
-pub use checking::check;
-pub use decoding::decode;
+pub use call::decode;

@@ -18,8 +18,8 @@ use Rattle.ladder.specs.Walk.{bitsOf}
 use Rattle.ladder.proofs.Lists.{length-joined}
 use Rattle.ladder.proofs.Bits.{joined-below}
 use Rattle.ladder.proofs.Encoding.{order-to-go, length-encodedBits, encodedBits-below}
+use Rattle.scalars.specs.Inner.{Fitting, gathered}
 use Rattle.encode.specs.declared.packing.Packing.{Packing}
-use Rattle.encode.specs.Inner.Scalars.{Fitting, gathered}
 use Rattle.encode.specs.Inner.Order.{ColumnsIn, dealtBy}
 use Rattle.encode.specs.Inner.Packing.{bitsIn, Open, Room, Put}
 use Rattle.encode.proofs.Dealt.{dealt-gathered, arranged-columns}

@@ -15,10 +15,10 @@ use Rattle.ladder.specs.Encoding.{dealt, deal}
 use Rattle.ladder.specs.Walk.{bitsOf}
 use Rattle.ladder.proofs.Lists.{length-tabulate, getD-tabulate, getD-map, map-same}
 use Rattle.ladder.proofs.Encoding.{dealt-is}
-use Rattle.encode.specs.Inner.Scalars.{gathered}
+use Rattle.scalars.specs.Inner.{gathered}
+use Rattle.scalars.proofs.Gathered.{gathered-bit}
 use Rattle.encode.specs.Inner.Order.{ColumnsIn, dealtBy}
 use Rattle.encode.proofs.Digits.{bitsOf-snoc, xor-bit}
-use Rattle.encode.proofs.Gathered.{gathered-bit}
 
 -- One place more.
 module _ (n : ℕ) (order : List ℕ) (r k : ℕ) (here : k < length order) where

@@ -9,7 +9,7 @@ use lib.Pow.{shr-shr, high, low}
 use Rattle.ladder.specs.Lists.{tabulate}
 use Rattle.ladder.specs.Walk.{bitsOf}
 use Rattle.ladder.proofs.Lists.{tabulate-same, tabulate-add}
-use Rattle.encode.proofs.Words.{low-bit}
+use Rattle.ladder.proofs.Fields.{low-bit}
 
 -- The bits of x, then the b bits of y.
 pub bitsOf-append : (a b x y : ℕ) → y < 2 ^ b → bitsOf (a + b) (x * 2 ^ b + y) ≡ bitsOf a x ++ bitsOf b y

@@ -12,7 +12,7 @@ use Rattle.ladder.proofs.Tests.{then-none, then-first, then-next, then-assoc}
 use Rattle.ladder.proofs.Refusals.{dim-none, len-none, shape-none}
 use Rattle.refuse.specs.Inner.{sized}
 use Rattle.refuse.proofs.Laws.{then-same, sized-yes, range-accepted}
-use Rattle.encode.specs.Inner.Scalars.{Shaped}
+use Rattle.scalars.specs.Inner.{Shaped}
 
 module _ (d l : ℕ) (scalars start bits : List ℕ) where
   -- What stands at number 3, by the true lengths and by those that are 0 out of range.

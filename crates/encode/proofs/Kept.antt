@@ -16,7 +16,7 @@ use Rattle.ladder.proofs.Tests.{refusing-yes, refusing-no}
 use Rattle.ladder.proofs.Numbers.{length-numbersOf}
 use Rattle.ladder.proofs.HouseOrder.{house-arrangement}
 use Rattle.ladder.proofs.Operations.{encode-none}
-use Rattle.encode.specs.Inner.Scalars.{Fitting}
+use Rattle.scalars.specs.Inner.{Fitting}
 use Rattle.encode.specs.Promise.{EncodePromise}
 
 -- What the core asks of an input.

@@ -1,8 +1,5 @@
 -- The laws that the encoder's proofs rest on.
-pub mod Words
-pub mod Below
 pub mod Digits
-pub mod Gathered
 pub mod Dealt
 pub mod Parting
 pub mod Filled

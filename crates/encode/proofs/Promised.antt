@@ -1,4 +1,4 @@
--- What follows from encode's promise alone, for crates above. Rests on the theorems about encoding (Demand2, Lengths), on what an input
+-- What follows from encode's promise alone, for crates above, after two laws of the scalars that it speaks of. Rests on the theorems about encoding (Demand2, Lengths), on what an input
 -- that is not refused is (`encode-none`), and on the promise fixing its answers (`encode-unique`).
 -- Assumes nothing.
 use Prim.Native.Nat.{ℕ, _*_, _^_, _<_}
@@ -70,7 +70,7 @@ module _ {d l : ℕ} {scalars start bits : List ℕ} {r : Encoded} {startAfter b
         let bytes = promise .bits-are ∙ refusing-no _ bits (encode d l (scalarsIn d l scalars) .bits) encode-accepted in
         rw (row, order, bytes)
 
-    -- No call refuses it ..
+    -- As a plan it is not refused ..
     pub encode-not-refused : planRefusal (written d l r startAfter bitsAfter) (planShape (written d l r startAfter bitsAfter)) ≡ 0
     unfolding encode
     encode-not-refused =

@@ -1,4 +1,3 @@
 -- Definitions that only inner contracts need.
-pub mod Scalars
 pub mod Order
 pub mod Packing

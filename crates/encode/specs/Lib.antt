@@ -1,4 +1,3 @@
--- What the call promises, against ladder's definitions: to be believed.
+-- `Promise` is what encode promises. `Inner` holds what only inner contracts need: no promise rests on it.
 pub mod Promise
--- Not to be believed: what only inner contracts need.
 pub mod Inner

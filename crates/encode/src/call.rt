@@ -1,9 +1,9 @@
 // The public call `encode`.
 use crate::order::house_order;
-use crate::scalars::odd_count;
-use crate::scalars::scalar_refusal;
 use crate::steps::encode_with;
 use refuse::OK;
+use scalars::odd_count;
+use scalars::scalar_refusal;
 ghost use mathlib.Core.Path.{_≡_};
 ghost use Rattle.ladder.specs.Refusals.{encodeRefusal};
 ghost use Rattle.encode.specs.Promise.{EncodePromise};

@@ -1,13 +1,13 @@
 // Orders of columns: the first d places of an array, columns counted from 0.
 use crate::dealing::deal;
-use crate::scalars::gather;
+use scalars::gather;
 ghost use mathlib.Core.Path.{_≡_};
 ghost use Prim.Native.Nat.{_≤_};
 ghost use lib.ListN.{take};
 ghost use Rattle.ladder.specs.Numbers.{numbersOf, scalarWords};
 ghost use Rattle.ladder.specs.Encoding.{rearrange, houseOrder};
 ghost use Rattle.ladder.specs.Walk.{bitsOf};
-ghost use Rattle.encode.specs.Inner.Scalars.{Fitting};
+ghost use Rattle.scalars.specs.Inner.{Fitting};
 
 // The order before a step with this order after it and the bits r, the first highest: the columns with bit 1 in reverse, then
 // the others. One pass from the last place to the first collects the two lists from both ends of one array, those with bit 1 from

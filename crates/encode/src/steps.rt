@@ -3,7 +3,7 @@ use crate::dealing::deal;
 use crate::order::rearrange;
 use crate::packing::Packing;
 use crate::packing::put;
-use crate::scalars::gather;
+use scalars::gather;
 ghost use mathlib.Core.Path.{_≡_};
 ghost use mathlib.Core.List.{map};
 ghost use Prim.Native.Nat.{suc};
@@ -12,7 +12,7 @@ ghost use Rattle.ladder.specs.Lists.{joined};
 ghost use Rattle.ladder.specs.Numbers.{numbersOf, scalarWords, packBits, bitsLength};
 ghost use Rattle.ladder.specs.Matrix.{Arrangement};
 ghost use Rattle.ladder.specs.Encoding.{encodedStart, encodedBits};
-ghost use Rattle.encode.specs.Inner.Scalars.{Fitting};
+ghost use Rattle.scalars.specs.Inner.{Fitting};
 ghost use Rattle.encode.specs.Inner.Order.{ColumnsIn};
 
 // Writes the first d columns of an order, counted from 1.

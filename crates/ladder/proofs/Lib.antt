@@ -1,6 +1,8 @@
 -- The theorems over the definitions, and the laws that every crate shares.
 pub mod Lists
+pub mod Writes
 pub mod Numbers
+pub mod Fields
 pub mod Bits
 pub mod Step
 pub mod Order

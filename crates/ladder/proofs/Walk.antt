@@ -73,7 +73,7 @@ numberOfBits-below (b ∷ r) bit =
     rw (pow-suc 2 (length r), mul-comm (2 ^ length r) 2) (digits-lt (bit zero) (numberOfBits-below r (λ k. bit (suc k))))
 
 -- What stands above bit n is not seen in a bit below.
-bit-below : (hi lo n j : ℕ) → lo < 2 ^ n → j < n → (hi * 2 ^ n + lo) / 2 ^ j % 2 ≡ lo / 2 ^ j % 2
+pub bit-below : (hi lo n j : ℕ) → lo < 2 ^ n → j < n → (hi * 2 ^ n + lo) / 2 ^ j % 2 ≡ lo / 2 ^ j % 2
 bit-below hi lo n j h l =
     sym (field (hi * 2 ^ n + lo) 1 j)
     ∙ ap (λ m. m / 2 ^ j) (sym (masked (hi * 2 ^ n + lo)) ∙ ap (λ m. m % 2 ^ (1 + j)) (low hi n h))

@@ -13,7 +13,7 @@ use Rattle.ladder.proofs.Lists.{getD-map}
 use Rattle.ladder.proofs.Numbers.{numberOf-below}
 use Rattle.ladder.proofs.Texts.{hex-power}
 use Rattle.ladder.proofs.Numerals.{digits-count, digits-length, digits-nth}
-use Rattle.encode.proofs.Words.{number-field}
+use Rattle.ladder.proofs.Fields.{number-field}
 
 -- Digit i, from the lowest, stands in word i / 16.
 pub hex-digit : (ws : List ℕ) → ((i : ℕ) → getD ws i 0 < 2 ^ 64) → (i : ℕ)

@@ -7,7 +7,7 @@ use native.Mathlib.Nat.{add-zero}
 use native.Mathlib.Omega.{arith}
 use lib.ListN.{length, set, length-append}
 use lib.Seq.{sets, length-sets}
-use Rattle.walk.proofs.Runs.{sets-append}
+use Rattle.ladder.proofs.Writes.{sets-append}
 use Rattle.listing.specs.Inner.{Put}
 
 -- Nothing put.

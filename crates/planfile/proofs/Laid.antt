@@ -12,7 +12,7 @@ use Rattle.ladder.specs.Numbers.{bitsAt, bytesFor, bitsLength, packBits}
 use Rattle.ladder.specs.Plan.{planLent, stepBits}
 use Rattle.ladder.specs.PlanFile.{mark, trailerSize, bodyLength, fileLength, twoBytes, fourBytes, fileOf}
 use Rattle.ladder.proofs.Bits.{bits-bound, bits-in-order}
-use Rattle.walk.proofs.Runs.{sets-append}
+use Rattle.ladder.proofs.Writes.{sets-append}
 use Rattle.planfile.specs.Inner.{Packable}
 use Rattle.planfile.proofs.Clearing.{clearedBits, cleared-packed}
 

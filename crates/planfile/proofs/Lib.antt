@@ -1,11 +1,10 @@
 -- Laws of the plan file.
 pub mod Copied
 pub mod Marks
-pub mod Judging
+pub mod Judged
 pub mod Clearing
 pub mod Laid
 pub mod Unique
 pub mod Promised
 pub mod Packed
 pub mod Prefaced
-pub mod SameFiles

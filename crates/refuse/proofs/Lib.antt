@@ -1,1 +1,2 @@
+-- Laws of judging.
 pub mod Laws

@@ -1,27 +1,18 @@
--- What follows from the promises of the two runs alone, with those of encode, decode and trace, for a crate above to cite.
+-- What follows from the promises of the two runs alone, for a crate above to cite.
 -- Assumes nothing.
-use Prim.Native.Nat.{ℕ, _*_, _^_, _≤_, _<_}
+use Prim.Native.Nat.{ℕ, _*_, _^_, _<_}
 use mathlib.Core.Path.{_≡_, sym, ap, subst, _∙_}
-use mathlib.Core.Logic.{_≢_, _↔_, _⊎_}
+use mathlib.Core.Logic.{_≢_, _↔_}
 use mathlib.Core.List.{List, map}
-use lib.ListN.{length, getD}
-use Rattle.ladder.specs.Numbers.{numbersOf, valueWords, valuesLength, traceLength, elementsLength, registersLength}
+use lib.ListN.{getD}
 use Rattle.ladder.specs.Plan.{Plan, lastMatrix, answerRow}
 use Rattle.ladder.specs.Registers.{combination, differenceRegisters, answerRegister}
-use Rattle.ladder.specs.Refusals.{scalarsIn, runRefusal}
+use Rattle.ladder.specs.Refusals.{runRefusal}
 use Rattle.ladder.proofs.Tests.{refusing-no, refusing-yes, refusing-accepted}
-use Rattle.ladder.proofs.Operations.{EncodeOk, RunOk, run-none}
+use Rattle.ladder.proofs.Operations.{RunOk, run-none}
 use Rattle.ladder.proofs.Trace.{trace-doublings, trace-additions}
-use Rattle.ladder.proofs.Demand2.{registers-in, answer-register, decode-words}
+use Rattle.ladder.proofs.Demand2.{registers-in, answer-register}
 use Rattle.ladder.proofs.Demand3.{runs-agree-accepted}
-use Rattle.encode.specs.Promise.{EncodePromise}
-use Rattle.encode.specs.declared.call.Encoded.{Encoded}
-use Rattle.encode.proofs.Promised.{written, encode-plan-ok, encode-decodes}
-use Rattle.decode.specs.Promise.{DecodePromise}
-use Rattle.decode.proofs.Promised.{decode-accepted}
-use Rattle.walk.specs.Promise.{TracePromise}
-use Rattle.walk.specs.declared.trace.Traced.{Traced}
-use Rattle.walk.proofs.Promised.{trace-counts}
 use Rattle.run.specs.declared.answer.Ran.{Ran}
 use Rattle.run.specs.Promise.{PlainPromise, DifferencePromise}
 use Rattle.run.proofs.Unique.{plain-unique}
@@ -94,45 +85,9 @@ module _ {p : Plan} {m : ℕ} {elements registers : List ℕ} {r : Ran} {registe
         ∙ ap (answerRegister p) (run-registers ∙ sym (registers-in p (ok .plan .plan) m elements (p .l)))
         ∙ answer-register p (ok .plan .plan) m elements
 
-    -- .. there are l doublings and l * d additions, which are those that trace answers ..
+    -- .. and there are l doublings and l * d additions.
     pub run-counts : (r .doublings ≡ p .l) × (r .additions ≡ p .l * p .d)
     run-counts = (
       promise .doublings-are ∙ refusing-no _ _ _ run-accepted ∙ trace-doublings p,
       promise .additions-are ∙ refusing-no _ _ _ run-accepted ∙ trace-additions p,
     )
-
-    pub run-traced : {trace : List ℕ} {t : Traced} {traceAfter : List ℕ} → TracePromise p trace t traceAfter
-        → length trace ≡ traceLength (p .d) (p .l) → (r .doublings ≡ t .doublings) × (r .additions ≡ t .additions)
-    run-traced traced long =
-        let n = trace-counts traced (record { plan = ok .plan; traceLong = long }) in
-        (run-counts .0 ∙ sym (n .0), run-counts .1 ∙ sym (n .1))
-
-    -- .. and the answer is the sum of the values that decode writes times the elements, by the modulus.
-    pub run-decoded : {values : List ℕ} {n : ℕ} {valuesAfter : List ℕ} → DecodePromise p values n valuesAfter
-        → length values ≡ valuesLength (p .d) (p .l) → r .answer ≡ combination m elements (numbersOf (p .d) (valueWords (p .l)) valuesAfter)
-    run-decoded decoded long =
-        run-answer
-        ∙ ap (combination m elements)
-        (sym (ap (numbersOf (p .d) (valueWords (p .l))) (decode-accepted decoded (record { plan = ok .plan; valuesLong = long }) .1)
-        ∙ decode-words p (ok .plan .plan)))
-
--- ---- what was encoded
-
--- Over what encode wrote a run refuses nothing where the modulus, the elements and the registers are right, and its answer is the
--- combination of the elements by the scalars.
-pub run-encoded : {d l : ℕ} {scalars start bits : List ℕ} {e : Encoded} {startAfter bitsAfter : List ℕ}
-    → EncodePromise d l scalars start bits e startAfter bitsAfter → EncodeOk d l scalars start bits
-    → {m : ℕ} {elements registers : List ℕ} {r : Ran} {registersAfter : List ℕ}
-    → PlainPromise (written d l e startAfter bitsAfter) m elements registers r registersAfter
-    → length elements ≡ elementsLength d → length registers ≡ registersLength d → m ≤ 2 ^ 63
-    → (m ≡ 0) ⊎ ((j : ℕ) → j < length elements → getD elements j 0 < m)
-    → (r .refusal ≡ 0) × (r .answer ≡ combination m elements (scalarsIn d l scalars))
-run-encoded {d} {l} {scalars} {e = e} {startAfter} {bitsAfter} encoded eok {m} {elements} {registers} promise many room high below =
-    let ok : RunOk (written d l e startAfter bitsAfter) m elements registers = record {
-      plan = encode-plan-ok encoded eok;
-      elementsLong = many;
-      registersLong = room;
-      modulus = high;
-      below = below;
-    } in
-    (run-accepted promise ok, run-answer promise ok ∙ ap (combination m elements) (encode-decodes encoded eok))

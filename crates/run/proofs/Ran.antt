@@ -1,31 +1,25 @@
--- A run that is not refused can be made, and what it leaves is what is promised: the walk's and the loop's registers are the plan's.
+-- A run that is not refused can begin, and what it finishes from its end registers is what is promised.
 -- Assumes nothing.
-use Prim.Native.Nat.{ℕ, zero, suc, pred, _+_, _-_, _*_, _%_, _^_, _<_}
-use mathlib.Core.Path.{_≡_, sym, ap, ap₂, subst, _∙_}
+use Prim.Native.Nat.{ℕ, zero, suc, pred, _+_, _-_, _*_, _%_, _^_, _≤_, _<_}
+use mathlib.Core.Path.{_≡_, sym, ap, subst, _∙_}
 use mathlib.Core.Logic.{_≢_}
 use mathlib.Core.List.{List, [], _∷_, map}
 use native.Mathlib.Numerals.{add-one, sub-one}
 use native.Mathlib.Omega.{arith}
 use lib.ListN.{length, getD, take}
 use lib.Seq.{getD-take}
-use Rattle.ladder.specs.Matrix.{Arrangement, startSigns}
-use Rattle.ladder.specs.Numbers.{startLength, elementsLength, registersLength, bitsAt}
-use Rattle.ladder.specs.Plan.{Plan, startOrder, lastMatrix}
-use Rattle.ladder.specs.Registers.{modulus, combination, startFrom, startRegisters, plainRule, differenceRule, registersAfter, plainRegisters, differenceRegisters, answerRegister}
-use Rattle.ladder.specs.Walk.{Walk, walkOf, orderOf}
+use Rattle.ladder.specs.Matrix.{Arrangement}
+use Rattle.ladder.specs.Numbers.{startLength, elementsLength, registersLength}
+use Rattle.ladder.specs.Plan.{Plan, startOrder}
+use Rattle.ladder.specs.Registers.{modulus, startFrom, startRegisters, answerRegister}
 use Rattle.ladder.specs.Refusals.{refusing, runRefusal}
 use Rattle.ladder.proofs.Tests.{refusing-yes}
 use Rattle.ladder.proofs.Refusals.{element-none, elements-below}
 use Rattle.ladder.proofs.Operations.{RunOk, run-none}
 use Rattle.ladder.proofs.Trace.{trace-doublings, trace-additions}
-use Rattle.ladder.proofs.Walk.{order-of-walk}
-use Rattle.ladder.proofs.Demand2.{registers-in}
-use Rattle.walk.specs.Inner.Ready.{started}
-use Rattle.walk.proofs.PlanWalk.{ready-start}
-use Rattle.walk.proofs.Starting.{started-is}
 use Rattle.run.specs.declared.answer.Ran.{Ran}
 use Rattle.run.specs.Promise.{RunPromise}
-use Rattle.run.specs.Inner.{Elements, Startable, PlainSteps, DifferenceSteps}
+use Rattle.run.specs.Inner.{Elements, Startable}
 use Rattle.run.proofs.ByModulus.{modulus-positive, below-modulus}
 
 -- Start registers are elements.
@@ -41,13 +35,6 @@ module _ {p : Plan} {m : ℕ} {elements registers : List ℕ} (ok : RunOk p m el
   -- Elements that are not refused are below the modulus.
   pub elements-of : Elements m (p .d) elements
   elements-of i h = elements-below m elements (element-none m elements .1 (ok .below)) words i
-
-  -- The walk's start holds the start order.
-  begins : started (p .d) (p .start) ≡ walkOf (p .d) (startOrder p) (startSigns (p .d))
-  begins = started-is (p .d) (p .start) (startOrder p) (ok .plan .plan .columns)
-
-  holds : orderOf (walkOf (p .d) (startOrder p) (startSigns (p .d))) ≡ startOrder p
-  holds = order-of-walk (p .d) (startOrder p) (startSigns (p .d)) (ok .plan .plan .start .long)
 
   -- The start registers can be made ..
   pub startable : Startable m (p .start) elements
@@ -75,70 +62,10 @@ module _ {p : Plan} {m : ℕ} {elements registers : List ℕ} (ok : RunOk p m el
         (ap (λ l. getD l i 0) (sym first-is) ∙ getD-take (suc (p .d)) first i 0 h)
         (start-below m elements 0 (startOrder p) (modulus-positive m) i)
 
-    -- .. and the plain run's steps.
-    pub plain-steps-ask : PlainSteps m (p .d) (p .l) (p .bits) first
-    plain-steps-ask = record {
-      dHigh = ok .plan .plan .dHigh;
-      lHigh = ok .plan .plan .lHigh;
-      mHigh = ok .modulus;
-      bits = ok .plan .bits;
-      below = first-below;
-    }
-
-    -- They end in the plan's registers, which are the rows' combinations.
-    plain-after : (regs : List ℕ)
-        → ((S : List ℕ) → take (suc (p .d)) regs ≡ registersAfter (plainRule m) (p .d) S (bitsAt (p .d) (p .bits)) (take (suc (p .d)) first) (p .l))
-        → take (suc (p .d)) regs ≡ plainRegisters p m elements (p .l)
-    unfolding plainRegisters
-    plain-after regs ran =
-        ran (startOrder p)
-        ∙ ap (λ s. registersAfter (plainRule m) (p .d) (startOrder p) (bitsAt (p .d) (p .bits)) s (p .l)) first-is
-
-    pub plain-ran : (regs : List ℕ)
-        → ((S : List ℕ) → take (suc (p .d)) regs ≡ registersAfter (plainRule m) (p .d) S (bitsAt (p .d) (p .bits)) (take (suc (p .d)) first) (p .l))
-        → take (suc (p .d)) regs ≡ map (combination m elements) (lastMatrix p)
-    unfolding lastMatrix
-    plain-ran regs ran = plain-after regs ran ∙ registers-in p (ok .plan .plan) m elements (p .l)
-
-    -- The difference run's steps can be made from the walk's start ..
-    pub difference-steps-ask : (w : Walk) → w ≡ started (p .d) (p .start) → DifferenceSteps m w (p .l) (p .bits) elements first
-    unfolding walkOf elementsLength
-    difference-steps-ask w e =
-        subst (λ v. DifferenceSteps m v (p .l) (p .bits) elements first) (sym (e ∙ begins)) (record {
-          ready = ready-start p (ok .plan .plan);
-          begun = ap (λ S. walkOf (p .d) S (startSigns (p .d))) (sym holds);
-          lHigh = ok .plan .plan .lHigh;
-          mHigh = ok .modulus;
-          bits = ok .plan .bits;
-          long = ok .elementsLong;
-          below = elements-of;
-          registers = first-below;
-        })
-
-    -- .. and end in the registers that its own rule defines.
-    pub difference-ran : (w : Walk) → w ≡ started (p .d) (p .start) → (regs : List ℕ)
-        → take (suc (w .d)) regs ≡ registersAfter (differenceRule m elements) (w .d) (orderOf w) (bitsAt (w .d) (p .bits)) (take (suc (w .d)) first) (p .l)
-        → take (suc (p .d)) regs ≡ differenceRegisters p m elements (p .l)
-    unfolding differenceRegisters walkOf
-    difference-ran w e regs ran =
-        subst
-        (λ v. take (suc (v .d)) regs ≡ registersAfter (differenceRule m elements) (v .d) (orderOf v) (bitsAt (v .d) (p .bits)) (take (suc (v .d)) first) (p .l))
-        (e ∙ begins) ran
-        ∙ ap₂ (λ S s. registersAfter (differenceRule m elements) (p .d) S (bitsAt (p .d) (p .bits)) s (p .l)) holds first-is
-
-  -- As many registers are stored as there are ..
-  pub stored-all : (regs : List ℕ) → take (length registers) regs ≡ take (suc (p .d)) regs
+  -- There are as many registers as are left, and the answer row is one of them.
+  pub room : (length registers ≡ suc (p .d)) × (p .answer ≤ suc (p .d))
   unfolding registersLength
-  stored-all regs = ap (λ n. take n regs) (ok .registersLong ∙ add-one (p .d))
-
-  -- .. and the answer is read at the answer row.
-  pub answer-read : (regs held : List ℕ) → take (suc (p .d)) regs ≡ held → getD regs (p .answer - 1) 0 ≡ answerRegister p held
-  unfolding answerRegister
-  answer-read regs held e =
-      let inside : pred (p .answer) < suc (p .d) = omega (arith, ok .plan .plan .answerHigh) in
-      ap (λ i. getD regs i 0) (sub-one (p .answer))
-      ∙ sym (getD-take (suc (p .d)) regs (pred (p .answer)) 0 inside)
-      ∙ ap (λ l. getD l (pred (p .answer)) 0) e
+  room = (ok .registersLong ∙ add-one (p .d), ok .plan .plan .answerHigh)
 
 -- ---- the promises are kept
 
@@ -159,15 +86,14 @@ module _ (p : Plan) (m : ℕ) (elements registers : List ℕ) (n : ℕ) (judged 
   }
 
   -- Else what was finished from the end registers.
-  pub run-kept : n ≡ 0 → ((i : ℕ) → getD elements i 0 < 2 ^ 64) → (regs : List ℕ) (r : Ran)
-      → r ≡ record { refusal = 0; answer = getD regs (p .answer - 1) 0; doublings = p .l; additions = p .l * p .d }
-      → (after : List ℕ) → after ≡ take (length registers) regs → (wanted : List ℕ) → take (suc (p .d)) regs ≡ wanted
-      → RunPromise p m elements registers wanted r after
-  unfolding refusing
-  run-kept none words regs r answered after left wanted held = rw answered record {
+  pub run-kept : n ≡ 0 → (after : List ℕ) (r : Ran)
+      → r ≡ record { refusal = 0; answer = getD after (p .answer - 1) 0; doublings = p .l; additions = p .l * p .d }
+      → (wanted : List ℕ) → after ≡ wanted → RunPromise p m elements registers wanted r after
+  unfolding refusing answerRegister
+  run-kept none after r answered wanted held = rw answered record {
     refusal-is = sym none ∙ judged;
-    answer-is = answer-read (asked none) words regs wanted held;
+    answer-is = ap (λ i. getD after i 0) (sub-one (p .answer)) ∙ ap (λ l. getD l (pred (p .answer)) 0) held;
     doublings-are = sym (trace-doublings p);
     additions-are = sym (trace-additions p);
-    registers-are = left ∙ stored-all (asked none) words regs ∙ held;
+    registers-are = held;
   }

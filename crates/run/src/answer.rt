@@ -1,9 +1,8 @@
-// What a run answers and leaves.
-use crate::store::store;
+// What a run answers.
 use refuse::OK;
 ghost use mathlib.Core.Path.{_≡_};
 ghost use Prim.Native.Nat.{_+_, _-_, _*_, _≤_};
-ghost use lib.ListN.{length, getD, take};
+ghost use lib.ListN.{length, getD};
 
 // The refusal, the register of the answer row, and the doublings and the additions made; 0 where the run is refused.
 pub struct Ran {
@@ -25,17 +24,15 @@ pub fn refused(refusal: u64) -> Ran
     }
 }
 
-// Leaves the end registers of a run of l steps, each one doubling and d additions, and answers it.
-pub fn finish(regs: [u64; 9], d: u64, l: u64, row: u64, registers: &mut [u64]) -> Ran
-    requires { ⌜ (d ≤ 8) × ((l ≤ 576) × ((1 ≤ row) × ((row ≤ d + 1) × (length (now registers) ≤ 9)))) ⌝ }
-    ensures answer { λ r. ⌜ r ≡ record { refusal = 0; answer = getD regs (row - 1) 0; doublings = l; additions = l * d } ⌝ }
-    ensures registers { λ _. ⌜ now (registers .exit) ≡ take (length (now (registers .entry))) regs ⌝ }
+// The answer of a run of l steps, each one doubling and d additions, that left these registers.
+pub fn finish(registers: &[u64], d: u64, l: u64, row: u64) -> Ran
+    requires { ⌜ (d ≤ 8) × ((l ≤ 576) × ((1 ≤ row) × ((row ≤ d + 1) × (length (now registers) ≡ d + 1)))) ⌝ }
+    ensures { λ r. ⌜ r ≡ record { refusal = 0; answer = getD (now (registers .entry)) (row - 1) 0; doublings = l; additions = l * d } ⌝ }
 {
-    store(regs, registers);
     let at = (row - 1) as usize;
     Ran {
         refusal: OK,
-        answer: regs[at],
+        answer: registers[at],
         doublings: l,
         additions: l * d,
     }

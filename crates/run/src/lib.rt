@@ -1,13 +1,10 @@
-// The plain run and the difference run: a plan evaluated over words by a modulus. The public calls are those below; the rest is an
-// inside of the library.
-mod answer;
-mod calls;
-mod difference;
-mod modular;
-mod plain;
-mod start;
-mod store;
+// What the plain run and the difference run share: words by a modulus, the start registers, the refusal and the answer. The public calls
+// stand in the crates `plain` and `difference`; all but the struct `Ran` is an inside of the plan library, not to be called from outside:
+// most of its functions ask that what they get was judged before.
+pub mod answer;
+pub mod modular;
+pub mod refusal;
+pub mod start;
+pub mod store;
 
 pub use answer::Ran;
-pub use calls::difference_run;
-pub use calls::plain_run;

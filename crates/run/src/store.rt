@@ -1,16 +1,15 @@
-// Registers into lent words.
+// Registers from one place into another.
 ghost use mathlib.Core.Path.{_≡_};
-ghost use Prim.Native.Nat.{_≤_};
-ghost use lib.ListN.{length, take};
+ghost use lib.ListN.{length};
 
-// Writes as many registers as there are words.
-pub fn store(regs: [u64; 9], registers: &mut [u64])
-    requires { ⌜ length (now registers) ≤ 9 ⌝ }
-    ensures { λ _. ⌜ now (registers .exit) ≡ take (length (now (registers .entry))) regs ⌝ }
+// Copies registers into as many words.
+pub fn store(regs: &[u64], words: &mut [u64])
+    requires { ⌜ length (now regs) ≡ length (now words) ⌝ }
+    ensures { λ _. ⌜ now (words .exit) ≡ now (regs .entry) ⌝ }
 {
     let mut i: usize = 0;
-    while i < registers.len() {
-        registers[i] = regs[i];
+    while i < words.len() {
+        words[i] = regs[i];
         i += 1;
     }
 }

@@ -13,9 +13,9 @@ use Rattle.ladder.specs.Matrix.{pairsFrom, additions}
 use Rattle.ladder.specs.Trace.{Entry}
 use Rattle.ladder.specs.Walk.{bitsOf}
 use Rattle.walk.specs.Inner.Ready.{Columns}
-use Rattle.walk.specs.Inner.WalkTrace.{filled, walkBlock}
+use Rattle.walk.specs.Inner.WalkBlock.{filled, walkBlock}
 use Rattle.walk.proofs.StepBits.{bit-below, bits-left}
-use Rattle.walk.proofs.Runs.{take-replicate}
+use Rattle.ladder.proofs.Writes.{take-replicate}
 use Rattle.walk.proofs.Turning.{column, column-at}
 
 -- The entry of rows x and y with the first d coefficients of a vector.

@@ -14,7 +14,7 @@ use Rattle.ladder.specs.Walk.{bitsOf}
 use Rattle.ladder.proofs.Step.{length-stepOrder}
 use Rattle.ladder.proofs.Walk.{length-bitsOf}
 use Rattle.walk.proofs.StepBits.{bit-below, bits-left, no-bits-left, ones-left, ones-room}
-use Rattle.walk.proofs.Runs.{sets-front, sets-before}
+use Rattle.ladder.proofs.Writes.{sets-front, sets-before}
 
 -- After k places: the rest of the order, written behind them, makes the whole.
 pub record Filling (d : ℕ) (old : List ℕ) (n : ℕ) (new : List ℕ) (x k : ℕ) : Type 0 where

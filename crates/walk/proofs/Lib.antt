@@ -1,21 +1,15 @@
 -- Laws of the walk.
 pub mod StepBits
-pub mod Runs
 pub mod Filling
 pub mod Turning
 pub mod SmallSigns
 pub mod Stepping
-pub mod SignedByte
+pub mod Moving
 pub mod Reading
-pub mod Entries
 pub mod Additions
-pub mod Blocks
-pub mod StepBlocks
-pub mod WalkBlocks
-pub mod Tracing
-pub mod WalkEntries
+pub mod WalkBlock
 pub mod PlanWalk
 pub mod Starting
-pub mod Judging
+pub mod Judged
 pub mod Unique
 pub mod Promised

@@ -1,18 +1,15 @@
--- What is judged before: an accepted plan's walk can be stepped and traced, before every step, and so can a walk state that is not refused.
+-- What is judged before: an accepted plan's walk can be stepped, before every step, and so can a walk state that is not refused.
 -- Assumes nothing.
-use Prim.Native.Nat.{ℕ, suc, pred, _+_, _-_, _*_, _≤_}
+use Prim.Native.Nat.{ℕ, suc, pred, _-_, _≤_}
 use mathlib.Core.Path.{_≡_, sym, ap, subst, _∙_}
 use mathlib.Core.Logic.{inl, inr, ⊎-elim}
 use mathlib.Core.List.{List, _++_, map}
-use native.Mathlib.Nat.{mul-assoc, sub-zero}
 use native.Mathlib.Omega.{arith}
 use lib.IntN.{ℤ, pos}
 use lib.ListN.{length, getD, take, replicate, length-map, List·getD-append}
 use lib.Seq.{take-at}
-use Rattle.ladder.specs.Numbers.{bytesFor, bitsLength, traceLength}
 use Rattle.ladder.specs.Matrix.{Arrangement, startSigns, orderAfter, signsAfter, IsUnit, Units}
 use Rattle.ladder.specs.Plan.{Plan, startOrder, matrixIn, orderIn, signsIn}
-use Rattle.ladder.specs.Trace.{entriesIn, traceBytes, doublings, additionCount}
 use Rattle.ladder.specs.Walk.{Walk, walkOf}
 use Rattle.ladder.proofs.Stairs.{stairs}
 use Rattle.ladder.proofs.Signs.{length-signsOf, getD-signsOf}
@@ -21,8 +18,6 @@ use Rattle.ladder.proofs.Walk.{pred-suc}
 use Rattle.ladder.proofs.Refusals.{Accepted, WalkOk}
 use Rattle.ladder.proofs.Demand3.{state-in, signs-in}
 use Rattle.walk.specs.Inner.Ready.{Columns, Ready}
-use Rattle.walk.specs.Inner.WalkTrace.{walkEntries, CanTrace, TraceLeft}
-use Rattle.walk.proofs.WalkEntries.{walk-trace}
 
 -- A walk state that is not refused can be stepped.
 pub ready-walk : (w : Walk) → 1 ≤ w .d → w .d ≤ 8 → WalkOk w → Ready w
@@ -66,25 +61,3 @@ module _ (p : Plan) (ok : Accepted p) where
   pub ready-start : Ready (walkOf (p .d) (startOrder p) (startSigns (p .d)))
   unfolding orderIn signsIn orderAfter signsAfter
   ready-start = ready-in 0
-
-  -- With its buffers' lengths right, the whole trace can be written ..
-  pub can-trace : (out : List ℕ) → length (p .bits) ≡ bitsLength (p .d) (p .l) → length out ≡ traceLength (p .d) (p .l)
-      → CanTrace (walkOf (p .d) (startOrder p) (startSigns (p .d))) (p .bits) 0 (p .l) out
-  unfolding walkOf bitsLength bytesFor traceLength
-  can-trace out b o = record {
-    ready = ready-start;
-    forward = omega arith;
-    last = ok .lHigh;
-    bits = omega arith;
-    room =
-        o ∙ mul-assoc (p .l) (p .d + 1) (p .d + 2)
-        ∙ ap (λ l. l * ((p .d + 1) * (p .d + 2))) (sym (sub-zero (p .l)));
-  }
-
-  -- .. and it is the plan's.
-  pub traced-in : (out : List ℕ) (m n : ℕ)
-      → TraceLeft (walkEntries (walkOf (p .d) (startOrder p) (startSigns (p .d))) (p .bits) 0 (p .l - 0)) out m n
-      → (out ≡ traceBytes (entriesIn p)) × (m ≡ doublings (entriesIn p)) × (n ≡ additionCount (entriesIn p))
-  traced-in out m n t =
-      let e = ap (walkEntries (walkOf (p .d) (startOrder p) (startSigns (p .d))) (p .bits) 0) (sub-zero (p .l)) ∙ walk-trace p ok in
-      (t .bytes ∙ ap traceBytes e, t .doubled ∙ ap doublings e, t .added ∙ ap additionCount e)

@@ -1,15 +1,13 @@
--- What follows from the promises of step and trace alone, for a crate above to cite.
+-- What follows from step's promise alone, for a crate above to cite.
 -- Assumes nothing.
-use Prim.Native.Nat.{ℕ, zero, suc, _-_, _*_, _^_, _≤_, _<_}
+use Prim.Native.Nat.{ℕ, zero, suc, _-_, _^_, _≤_, _<_}
 use mathlib.Core.Path.{_≡_, sym, ap, subst, _∙_}
 use mathlib.Core.Logic.{_≢_, _↔_}
-use mathlib.Core.List.{List}
 use native.Mathlib.Omega.{arith}
 use lib.IntN.{pos}
 use lib.ListN.{length, replicate, List·getD-append}
 use Rattle.ladder.specs.Matrix.{startSigns, orderAfter, signsAfter}
 use Rattle.ladder.specs.Plan.{Plan, startOrder, stepBits, orderIn, signsIn}
-use Rattle.ladder.specs.Trace.{entriesIn, traceBytes}
 use Rattle.ladder.specs.Walk.{walkOf, stepWalk}
 use Rattle.ladder.specs.Refusals.{walkOrder}
 use Rattle.ladder.proofs.Bits.{length-stepBits, stepBits-below}
@@ -17,14 +15,12 @@ use Rattle.ladder.proofs.Walk.{numberOfBits, numberOfBits-below, walkAfter, wal
 use Rattle.ladder.proofs.WalkSteps.{walk-in-order}
 use Rattle.ladder.proofs.Tests.{refusing-no, refusing-yes}
 use Rattle.ladder.proofs.Refusals.{Accepted, walkOrder-none}
-use Rattle.ladder.proofs.Operations.{StepOk, step-none, TraceOk, trace-none}
-use Rattle.ladder.proofs.Trace.{trace-doublings, trace-additions}
+use Rattle.ladder.proofs.Operations.{StepOk, step-none}
 use Rattle.ladder.proofs.Demand3.{state-in}
 use Rattle.walk.specs.declared.state.Walk.{Walk}
 use Rattle.walk.specs.declared.step.Stepped.{Stepped}
-use Rattle.walk.specs.declared.trace.Traced.{Traced}
 use Rattle.walk.specs.WalkState.{walkState}
-use Rattle.walk.specs.Promise.{StepPromise, TracePromise}
+use Rattle.walk.specs.Promise.{StepPromise}
 use Rattle.walk.proofs.PlanWalk.{ready-in}
 use Rattle.walk.proofs.Unique.{same-walk}
 
@@ -94,32 +90,3 @@ module _ (p : Plan) (ok : Accepted p) where
       stands : (s : ℕ) → s ≤ n → walkState (w s) ≡ walkOf (p .d) (orderIn p s) (signsIn p s)
       stands zero h = begins
       stands (suc s) h = ap walkState (next s h) ∙ steps-along s (w s) (r s) (stands s (omega arith)) (promises s h) .1
-
--- ---- trace
-
-module _ {p : Plan} {trace : List ℕ} {r : Traced} {traceAfter : List ℕ} (promise : TracePromise p trace r traceAfter) where
-  -- Trace's refusal is 0 exactly where the plan and the buffers are what it asks ..
-  pub trace-accepts : r .refusal ≡ 0 ↔ TraceOk p trace
-  trace-accepts = subst (λ n. n ≡ 0 ↔ TraceOk p trace) (sym (promise .refusal-is)) (trace-none p trace)
-
-  -- .. then the refusal is 0, and every entry is written ..
-  pub trace-accepted : TraceOk p trace → (r .refusal ≡ 0) × (traceAfter ≡ traceBytes (entriesIn p))
-  trace-accepted ok =
-      let none = trace-accepts .1 ok in
-      (none, promise .trace-is ∙ refusing-no _ _ _ none)
-
-  -- .. l doublings and l * d additions ..
-  pub trace-counts : TraceOk p trace → (r .doublings ≡ p .l) × (r .additions ≡ p .l * p .d)
-  trace-counts ok =
-      let none = trace-accepts .1 ok in (
-        promise .doublings-are ∙ refusing-no _ _ _ none ∙ trace-doublings p,
-        promise .additions-are ∙ refusing-no _ _ _ none ∙ trace-additions p,
-      )
-
-  -- .. and on refusal nothing is written or counted.
-  pub trace-refused : r .refusal ≢ 0 → (r .doublings ≡ 0) × (r .additions ≡ 0) × (traceAfter ≡ trace)
-  trace-refused some = (
-    promise .doublings-are ∙ refusing-yes _ _ _ some,
-    promise .additions-are ∙ refusing-yes _ _ _ some,
-    promise .trace-is ∙ refusing-yes _ _ _ some,
-  )

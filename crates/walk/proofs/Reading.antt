@@ -1,73 +1,65 @@
--- The bits of a step, read one after the other into one number.
+-- How the bits of a step, as one number, are taken out of two neighbouring bytes.
 -- Assumes nothing.
-use Prim.Native.Nat.{ℕ, _+_, _*_, _^_, _≤_, _<_}
-use mathlib.Core.Path.{_≡_, refl, sym, ap, subst, _∙_}
-use mathlib.Core.List.{List, [], _∷_, _++_}
-use native.Mathlib.Nat.{add-zero, mul-assoc, pow-suc}
-use native.Mathlib.Numerals.{add-one}
+use Prim.Native.Nat.{ℕ, suc, _+_, _-_, _*_, _/_, _%_, _^_, _≤_, _<_}
+use mathlib.Core.Path.{_≡_, sym, ap, _∙_}
+use mathlib.Core.List.{List}
+use native.Mathlib.Nat.{mod-lt}
+use native.Mathlib.Decide.{decLt}
 use native.Mathlib.Omega.{arith}
-use lib.ListN.{length, getD, length-append}
-use lib.Pow.{pow-mono}
-use Rattle.ladder.specs.Lists.{tabulate}
+use lib.ListN.{getD}
+use lib.Pow.{pow-pos, high, shr-shr}
 use Rattle.ladder.specs.Numbers.{bitAt, bitsAt}
 use Rattle.ladder.specs.Walk.{bitsOf}
-use Rattle.ladder.proofs.Lists.{length-tabulate, tabulate-add}
-use Rattle.ladder.proofs.Numbers.{tabulate-below}
-use Rattle.ladder.proofs.Bits.{bitAt-below}
-use Rattle.ladder.proofs.Walk.{numberOfBits, numberOfBits-below, bitsOf-numberOfBits}
+use Rattle.ladder.proofs.Lists.{tabulate-same}
+use Rattle.ladder.proofs.Fields.{low-bit}
+use Rattle.ladder.proofs.Bits.{bitAt-byte}
+use Rattle.ladder.proofs.Walk.{bit-below}
 use Rattle.walk.specs.Inner.ReadBits.{ReadBits}
 
--- One bit more doubles the number and adds the bit.
-numberOfBits-more : (r : List ℕ) (b : ℕ) → numberOfBits (r ++ (b ∷ [])) ≡ numberOfBits r * 2 + b
-unfolding numberOfBits
-numberOfBits-more [] b = omega arith
-numberOfBits-more (a ∷ r) b =
-    omega (
-      arith,
-      numberOfBits-more r b,
-      ap (λ n. a * 2 ^ n) (length-append r (b ∷ [])),
-      ap (λ n. a * n) (ap (λ n. 2 ^ n) (add-one (length r)) ∙ pow-suc 2 (length r)),
-      sym (mul-assoc a (2 ^ length r) 2),
-    )
+-- Two bytes as one number: bit i, the most significant first, is that of the first byte ..
+first-of-two : (hi lo i : ℕ) → lo < 256 → i < 8 → (hi * 256 + lo) / 2 ^ (15 - i) % 2 ≡ hi / 2 ^ (7 - i) % 2
+first-of-two hi lo i small h =
+    let place : 15 - i ≡ 8 + (7 - i) = omega arith in
+    rw place
+    (ap (λ m. m % 2) (sym (shr-shr (hi * 256 + lo) 8 (7 - i)) ∙ ap (λ m. m / 2 ^ (7 - i)) (high hi 8 small)))
 
--- The number of the first k bits from bit number `first` on.
-unfoldable pub readFrom : List ℕ → ℕ → ℕ → ℕ
-readFrom bytes first k = numberOfBits (tabulate k (λ i. bitAt bytes (first + i)))
+-- .. or from 8 on of the second.
+second-of-two : (hi lo i : ℕ) → lo < 256 → i < 8 → (hi * 256 + lo) / 2 ^ (15 - (8 + i)) % 2 ≡ lo / 2 ^ (7 - i) % 2
+second-of-two hi lo i small h =
+    let place : 15 - (8 + i) ≡ 7 - i = omega arith in
+    rw place (bit-below hi lo 8 (7 - i) small (omega arith))
 
-pub read-none : (bytes : List ℕ) (first : ℕ) → readFrom bytes first 0 ≡ 0
-unfolding readFrom tabulate numberOfBits
-read-none bytes first = refl
+module _ (bytes : List ℕ) (hi lo q : ℕ) (is-high : hi ≡ getD bytes q 0) (is-low : lo ≡ getD bytes (q + 1) 0) (small : lo < 256) where
+  -- So it is bit i of the bytes from byte q on.
+  bit-of-two : (i : ℕ) → i < 16 → (hi * 256 + lo) / 2 ^ (15 - i) % 2 ≡ bitAt bytes (8 * q + i)
+  bit-of-two i h = go (decLt i 8)
+    where
+      go : Dec (i < 8) → (hi * 256 + lo) / 2 ^ (15 - i) % 2 ≡ bitAt bytes (8 * q + i)
+      go (yes l) =
+          first-of-two hi lo i small l ∙ ap (λ b. b / 2 ^ (7 - i) % 2) is-high ∙ sym (bitAt-byte bytes q i l)
+      go (no l) =
+          let k = i - 8 in
+          let e : i ≡ 8 + k = omega arith in
+          let n : 8 * q + (8 + k) ≡ 8 * (q + 1) + k = omega arith in
+          rw e
+          (second-of-two hi lo k small (omega arith) ∙ ap (λ b. b / 2 ^ (7 - k) % 2) is-low
+          ∙ sym (ap (bitAt bytes) n ∙ bitAt-byte bytes (q + 1) k (omega arith)))
 
-pub read-more : (bytes : List ℕ) (first k : ℕ) → readFrom bytes first (k + 1) ≡ readFrom bytes first k * 2 + bitAt bytes (first + k)
-unfolding readFrom tabulate
-read-more bytes first k =
-    let f : ℕ → ℕ = λ i. bitAt bytes (first + i) in
-    ap numberOfBits (tabulate-add k 1 f)
-    ∙ numberOfBits-more (tabulate k f) (f (k + 0))
-    ∙ ap (λ i. numberOfBits (tabulate k f) * 2 + f i) (add-zero k)
-
-bits-small : (bytes : List ℕ) (first k i : ℕ) → getD (tabulate k (λ j. bitAt bytes (first + j))) i 0 < 2
-bits-small bytes first k = tabulate-below 2 k _ (omega arith) (λ i h. bitAt-below bytes (first + i))
-
--- The number has k bits ..
-pub read-below : (bytes : List ℕ) (first k : ℕ) → readFrom bytes first k < 2 ^ k
-unfolding readFrom
-read-below bytes first k =
-    subst (λ n. numberOfBits (tabulate k (λ i. bitAt bytes (first + i))) < 2 ^ n) (length-tabulate k _)
-    (numberOfBits-below (tabulate k (λ i. bitAt bytes (first + i))) (bits-small bytes first k))
-
--- .. so what is read until eight bits stays small.
-pub read-small : (bytes : List ℕ) (first k : ℕ) → k ≤ 8 → readFrom bytes first k < 256
-read-small bytes first k h = omega (arith, read-below bytes first k, pow-mono {i = k} {j = 8} h)
-
--- All d bits read, the number stands for them.
-pub read-all : (bytes : List ℕ) (d s : ℕ) → ReadBits d s bytes (readFrom bytes (s * d) d)
-unfolding readFrom bitsAt
-read-all bytes d s =
-    let r = tabulate d (λ i. bitAt bytes (s * d + i)) in
-    record {
-      bits =
-          ap (λ n. bitsOf n (numberOfBits r)) (sym (length-tabulate d (λ i. bitAt bytes (s * d + i))))
-          ∙ bitsOf-numberOfBits r (bits-small bytes (s * d) d);
-      below = read-below bytes (s * d) d;
-    }
+  -- The d bits from bit `first` of the first byte on.
+  pub read-two : (d s first : ℕ) → d ≤ 8 → first < 8 → s * d ≡ 8 * q + first
+      → ReadBits d s bytes ((hi * 256 + lo) / 2 ^ (16 - first - d) % 2 ^ d)
+  unfolding bitsOf bitsAt
+  read-two d s first h f e = record {
+    bits = tabulate-same d _ _ bit;
+    below = mod-lt _ (pow-pos d);
+  }
+    where
+      bit : (k : ℕ) → k < d → (hi * 256 + lo) / 2 ^ (16 - first - d) % 2 ^ d / 2 ^ (d - suc k) % 2 ≡ bitAt bytes (s * d + k)
+      bit k l =
+          let place : 16 - first - d + (d - suc k) ≡ 15 - (first + k) = omega arith in
+          let n : 8 * q + (first + k) ≡ s * d + k = omega arith in
+          sym (low-bit ((hi * 256 + lo) / 2 ^ (16 - first - d)) d (d - suc k) (omega arith))
+          ∙ ap (λ m. m % 2) (shr-shr (hi * 256 + lo) (16 - first - d) (d - suc k))
+          ∙ ap (λ i. (hi * 256 + lo) / 2 ^ i % 2) place
+          ∙ bit-of-two (first + k) (omega arith)
+          ∙ ap (bitAt bytes) n

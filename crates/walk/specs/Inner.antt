@@ -1,4 +1,4 @@
 -- Definitions that only inner contracts cite.
 pub mod Ready
 pub mod ReadBits
-pub mod WalkTrace
+pub mod WalkBlock

@@ -1,15 +1,11 @@
--- What step and trace promise, on all input: the refusal of the table, every answer and every output.
+-- What step promises, on all input: the refusal of the table, and the walk state.
 -- Assumes nothing.
 use Prim.Native.Nat.{ℕ}
 use mathlib.Core.Path.{_≡_}
-use mathlib.Core.List.{List}
-use Rattle.ladder.specs.Plan.{Plan}
-use Rattle.ladder.specs.Trace.{entriesIn, traceBytes, doublings, additionCount}
 use Rattle.ladder.specs.Walk.{stepWalk}
-use Rattle.ladder.specs.Refusals.{refusing, stepRefusal, traceRefusal}
+use Rattle.ladder.specs.Refusals.{refusing, stepRefusal}
 use Rattle.walk.specs.declared.state.Walk.{Walk}
 use Rattle.walk.specs.declared.step.Stepped.{Stepped}
-use Rattle.walk.specs.declared.trace.Traced.{Traced}
 use Rattle.walk.specs.WalkState.{walkState}
 
 -- Step, of the walk state w with the bits as one number: the next state; on refusal the state as it was, all 17 fields. With d 2, order
@@ -17,12 +13,3 @@ use Rattle.walk.specs.WalkState.{walkState}
 pub record StepPromise (w : Walk) (bits : ℕ) (r : Stepped) : Type 0 where
   pub refusal-is : r .refusal ≡ stepRefusal (walkState w) bits
   pub walk-is : walkState (r .walk) ≡ refusing (r .refusal) (walkState w) (stepWalk (walkState w) bits)
-
--- Trace, of the plan p, with the trace buffer as it comes and as it is left: the bytes of its entries, whose vectors are rows of the
--- matrix before each step, and the counts of these entries; on refusal zeros, and the buffer as it came. With d 2, l 2, start order 1 2,
--- bits B0, row 2 and room for 24 bytes: refusal 0, 2 doublings, 4 additions, and bytes that begin 02 02 00 00, 01 02 01 00.
-pub record TracePromise (p : Plan) (trace : List ℕ) (r : Traced) (traceAfter : List ℕ) : Type 0 where
-  pub refusal-is : r .refusal ≡ traceRefusal p trace
-  pub doublings-are : r .doublings ≡ refusing (r .refusal) 0 (doublings (entriesIn p))
-  pub additions-are : r .additions ≡ refusing (r .refusal) 0 (additionCount (entriesIn p))
-  pub trace-is : traceAfter ≡ refusing (r .refusal) trace (traceBytes (entriesIn p))

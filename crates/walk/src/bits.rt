@@ -1,7 +1,7 @@
 // The bits of a plan, read from lent bytes.
 ghost use mathlib.Core.Path.{_≡_};
 ghost use Prim.Native.Nat.{_+_, _*_, _<_, _≤_};
-ghost use lib.ListN.{length};
+ghost use lib.ListN.{length, getD};
 ghost use Rattle.ladder.specs.Numbers.{bitAt};
 ghost use Rattle.walk.specs.Inner.ReadBits.{ReadBits};
 
@@ -13,17 +13,21 @@ pub fn bit_at(bytes: &[u8], n: usize) -> u64
     ((bytes[n / 8] >> (7 - n % 8)) % 2) as u64
 }
 
-// The d bits of step s (from 0) as one number, the first of weight 2^(d-1).
+// Byte i, 0 past the last.
+fn byte(bytes: &[u8], i: usize) -> u8
+    ensures { λ b. ⌜ b ≡ getD (now (bytes .entry)) i 0 ⌝ }
+{
+    if i < bytes.len() { bytes[i] } else { 0 }
+}
+
+// The d bits of step s (from 0) as one number, the first of weight 2^(d-1). They stand in two neighbouring bytes at most.
 pub fn step_bits(bytes: &[u8], d: usize, s: usize) -> u64
     requires { ⌜ (d ≤ 8) × ((s < 576) × (s * d + d ≤ 8 * length (now bytes))) ⌝ }
     ensures { λ r. ⌜ ReadBits d s (now (bytes .entry)) r ⌝ }
 {
     let first = s * d;
-    let mut r: u64 = 0;
-    let mut k: usize = 0;
-    while k < d {
-        r = r * 2 + bit_at(bytes, first + k);
-        k += 1;
-    }
-    r
+    let at = first / 8;
+    let high = byte(bytes, at) as u64;
+    let low = byte(bytes, at + 1) as u64;
+    ((high * 256 + low) >> (16 - first % 8 - d)) % (1 << d)
 }

@@ -18,11 +18,5 @@ pub fn ones_in(d: usize, r: u64) -> usize
     requires { ⌜ d ≤ 8 ⌝ }
     ensures { λ h. ⌜ h ≡ ones (bitsOf d r) ⌝ }
 {
-    let mut h: usize = 0;
-    let mut k: usize = 0;
-    while k < d {
-        h += bit(d, r, k) as usize;
-        k += 1;
-    }
-    h
+    u64::count_ones(r % (1 << d)) as usize
 }

@@ -17,11 +17,11 @@ abbrev μ-loop : tie.MeasureT-loop
 loop-holds : tie.Need-loop-holds Inv-loop μ-loop
 loop-holds c = search needs
 
-array-copy-out-byte : tie.Need-array-copy-out-byte Inv-loop μ-loop
-array-copy-out-byte c = search needs
+array-copy-out-signed-byte : tie.Need-array-copy-out-signed-byte Inv-loop μ-loop
+array-copy-out-signed-byte c = search needs
 
-byte-requires : tie.Need-byte-requires Inv-loop μ-loop
-byte-requires c κs = search needs
+signed-byte-requires : tie.Need-signed-byte-requires Inv-loop μ-loop
+signed-byte-requires c κs = search needs
 
 array-write-out : tie.Need-array-write-out Inv-loop μ-loop
 array-write-out c = search needs
@@ -45,8 +45,8 @@ bytes-spec =
     Inv-loop
     μ-loop
     loop-holds
-    array-copy-out-byte
-    byte-requires
+    array-copy-out-signed-byte
+    signed-byte-requires
     array-write-out
     add-i
     loop-less

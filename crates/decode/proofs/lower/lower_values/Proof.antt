@@ -3,7 +3,7 @@
 use mathlib.Core.Path.{sym}
 use lib.Seq.{length-take-le}
 use Rattle.walk.specs.WalkState.{walkState}
-use Rattle.walk.proofs.Runs.{take-replicate}
+use Rattle.ladder.proofs.Writes.{take-replicate}
 use borrow.Author.Needs.{needs}
 use Rattle.decode.proofs.lower.lower_values.Statement.{statement}
 use Rattle.decode.proofs.lower.lower_values.Tie as tie

@@ -1,7 +1,7 @@
 -- `distance_refusal` meets its contract: the two tests are those of the definition, and no sum wraps (`bits-few`).
 -- Assumes nothing.
 use native.Mathlib.Omega.{arith}
-use Rattle.planfile.proofs.Judging.{bits-few, far-refused, far-accepted}
+use Rattle.planfile.proofs.Judged.{bits-few, far-refused, far-accepted}
 use borrow.Author.Needs.{needs}
 use Rattle.planfile.proofs.judge.distance_refusal.Statement.{statement}
 use Rattle.planfile.proofs.judge.distance_refusal.Tie as tie

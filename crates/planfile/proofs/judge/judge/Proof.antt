@@ -2,7 +2,7 @@
 -- Assumes nothing.
 use native.Mathlib.Omega.{arith}
 use Rattle.ladder.specs.PlanFile.{mark}
-use Rattle.planfile.proofs.Judging.{placed, judged-early, judged-late}
+use Rattle.planfile.proofs.Judged.{placed, judged-early, judged-late}
 use borrow.Author.Needs.{needs}
 use Rattle.planfile.proofs.judge.judge.Statement.{statement}
 use Rattle.planfile.proofs.judge.judge.Tie as tie

@@ -6,7 +6,7 @@ use lib.ListN.{length}
 use Rattle.ladder.specs.Plan.{planLent}
 use Rattle.ladder.specs.Refusals.{unless}
 use Rattle.refuse.specs.Inner.{lentRefusal}
-use Rattle.planfile.proofs.Judging.{pack-judged}
+use Rattle.planfile.proofs.Judged.{pack-judged}
 use borrow.Author.Needs.{needs}
 use Rattle.planfile.proofs.packing.pack_refusal.Statement.{statement}
 use Rattle.planfile.proofs.packing.pack_refusal.Tie as tie

@@ -12,26 +12,29 @@ use Rattle.run.proofs.store.store.Statement.{statement}
 use Rattle.run.proofs.store.store.Tie as tie
 
 abbrev Inv-loop : tie.InvT-loop
-Inv-loop registers₀ regs i₀ registers i =
-    (i ≤ length registers₀) × (length registers ≡ length registers₀) × (take i registers ≡ take i regs)
+Inv-loop regs words₀ i₀ words i = (i ≤ length words₀) × (length words ≡ length words₀) × (take i words ≡ take i regs)
 
 abbrev μ-loop : tie.MeasureT-loop
-μ-loop registers₀ regs i₀ registers i = length registers₀ - i
+μ-loop regs words₀ i₀ words i = length words₀ - i
+
+-- What the function got, at the loop's head.
+abbrev entered : tie.At-loop Inv-loop μ-loop → tie.Start Inv-loop μ-loop
+entered l = l .before
 
 loop-holds : tie.Need-loop-holds Inv-loop μ-loop
 loop-holds c = (omega arith, refl, refl)
 
-mul-registers : tie.Need-mul-registers Inv-loop μ-loop
-mul-registers c = search needs
+mul-words : tie.Need-mul-words Inv-loop μ-loop
+mul-words c = search needs
 
-array-read-registers : tie.Need-array-read-registers Inv-loop μ-loop
-array-read-registers c = omega (arith, c .before .before .pre)
+shared-slice-read-words : tie.Need-shared-slice-read-words Inv-loop μ-loop
+shared-slice-read-words c = omega (arith, entered (c .before .before) .pre)
 
-mul-registers-2 : tie.Need-mul-registers-2 Inv-loop μ-loop
-mul-registers-2 c = search needs
+mul-words-2 : tie.Need-mul-words-2 Inv-loop μ-loop
+mul-words-2 c = search needs
 
-slice-write-registers : tie.Need-slice-write-registers Inv-loop μ-loop
-slice-write-registers c = search needs
+slice-write-words : tie.Need-slice-write-words Inv-loop μ-loop
+slice-write-words c = search needs
 
 add-i : tie.Need-add-i Inv-loop μ-loop
 add-i c = search needs
@@ -41,15 +44,15 @@ loop-less c = omega arith
 
 loop-again : tie.Need-loop-again Inv-loop μ-loop
 loop-again c =
-    let regs = c .before .before .args .t1 in
-    let l = c .before .loop in
-    let wide : length regs ≡ 9 = search needs in (
+    let l = c .before .before in
+    let s = entered l in
+    let regs = s .args .regs .now in (
       omega arith,
-      length-set (l .registers) (l .i) _ ∙ l .inv .1,
-      rw (add-one (l .i))
-          (take-suc-set (l .registers) (l .i) _ (omega arith)
-          ∙ ap (λ s. s ++ (getD regs (l .i) 0 ∷ [])) (l .inv .2)
-          ∙ sym (take-suc regs (l .i) 0 (omega (arith, wide, c .before .before .pre)))),
+      length-set (l .loop .words) (l .loop .i) _ ∙ l .loop .inv .1,
+      rw (add-one (l .loop .i))
+          (take-suc-set (l .loop .words) (l .loop .i) _ (omega arith)
+          ∙ ap (λ t. t ++ (getD regs (l .loop .i) 0 ∷ [])) (l .loop .inv .2)
+          ∙ sym (take-suc regs (l .loop .i) 0 (omega (arith, s .pre)))),
     )
 
 same-length : tie.Need-same-length Inv-loop μ-loop
@@ -57,10 +60,10 @@ same-length c = c .before .loop .inv .1
 
 returns : tie.Need-returns Inv-loop μ-loop
 returns c =
-    let l = c .before .loop in
-    let n = length (c .before .before .args .registers .now) in
-    let done : l .i ≡ n = omega arith in
-    sym (take-all n (l .registers) (omega arith)) ∙ rw done at (l .inv .2)
+    let l = c .before in
+    let s = entered l in
+    let i = l .loop .i in
+    sym (take-all i (l .loop .words) (omega arith)) ∙ l .loop .inv .2 ∙ take-all i (s .args .regs .now) (omega (arith, s .pre))
 
 pub store-spec : {M : Type 1} → statement M
 store-spec =
@@ -69,10 +72,10 @@ store-spec =
     Inv-loop
     μ-loop
     loop-holds
-    mul-registers
-    array-read-registers
-    mul-registers-2
-    slice-write-registers
+    mul-words
+    shared-slice-read-words
+    mul-words-2
+    slice-write-words
     add-i
     loop-less
     loop-again

@@ -1,79 +1,83 @@
--- `walk::bits::step_bits` meets its contract. The loop's invariant: the number is that of the bits read.
+-- `walk::bits::step_bits` meets its contract: the d bits stand in two neighbouring bytes (`read-two`).
 -- Assumes nothing.
-use Prim.Native.Nat.{_*_, _-_, _≤_, _<_}
-use mathlib.Core.Path.{_≡_, sym, ap, _∙_, subst}
+use Prim.Native.Nat.{_*_, _/_, _%_}
 use native.Mathlib.Omega.{arith}
+use lib.Pow.{pow-pos}
 use borrow.Author.Needs.{needs}
-use Rattle.ladder.proofs.Bits.{bitAt-below}
-use Rattle.walk.specs.Inner.ReadBits.{ReadBits}
 use Rattle.ladder.proofs.Bits.{bits-bound}
-use Rattle.walk.proofs.Reading.{readFrom, read-none, read-more, read-small, read-all}
+use Rattle.walk.proofs.Reading.{read-two}
+use Rattle.walk.proofs.StepBits.{power}
 use Rattle.walk.proofs.bits.step_bits.Statement.{statement}
 use Rattle.walk.proofs.bits.step_bits.Tie as tie
 
-abbrev Inv-loop : tie.InvT-loop
-Inv-loop bytes d s first r₀ k₀ r k = (k ≤ d) × (r ≡ readFrom bytes first k)
+mul-first : tie.Need-mul-first
+mul-first c =
+    let a = c .before .args in
+    omega (arith, bits-bound (a .d) (a .s) (search needs) (omega arith))
 
-abbrev μ-loop : tie.MeasureT-loop
-μ-loop bytes d s first r₀ k₀ r k = d - k
+byte-requires : tie.Need-byte-requires
+byte-requires c κs = search needs
 
-mul-first : tie.Need-mul-first Inv-loop μ-loop
-mul-first c = omega (arith, bits-bound (c .before .args .d) (c .before .args .s) (c .before .pre .0) (omega (arith, c .before .pre .1 .0)))
+cast-high : tie.Need-cast-high
+cast-high c = search needs
 
-loop-holds : tie.Need-loop-holds Inv-loop μ-loop
-loop-holds c = (omega arith, sym (read-none _ _))
+add-byte : tie.Need-add-byte
+add-byte c =
+    let a = c .before .before .args in
+    omega (arith, bits-bound (a .d) (a .s) (search needs) (omega arith))
 
-mul-r : tie.Need-mul-r Inv-loop μ-loop
-mul-r c =
+byte-requires-2 : tie.Need-byte-requires-2
+byte-requires-2 c κs = search needs
+
+cast-low : tie.Need-cast-low
+cast-low c = search needs
+
+mul-result : tie.Need-mul-result
+mul-result c = search needs
+
+add-result : tie.Need-add-result
+add-result c = search needs
+
+sub-result : tie.Need-sub-result
+sub-result c = search needs
+
+sub-result-2 : tie.Need-sub-result-2
+sub-result-2 c = search needs
+
+shr-result : tie.Need-shr-result
+shr-result c = search needs
+
+shl-result : tie.Need-shl-result
+shl-result c = search needs
+
+rem-result : tie.Need-rem-result
+rem-result c =
     let a = c .before .before .before .args in
-    omega (arith, read-small (a .bytes .now) (a .s * a .d) (c .before .loop .k) (omega arith))
+    rw (power (a .d) (search needs)) (pow-pos (a .d))
 
-add-bit-at : tie.Need-add-bit-at Inv-loop μ-loop
-add-bit-at c =
-    let a = c .before .before .before .args in
-    omega (arith, bits-bound (a .d) (a .s) (c .before .before .before .pre .0) (omega (arith, c .before .before .before .pre .1 .0)))
-
-bit-at-requires : tie.Need-bit-at-requires Inv-loop μ-loop
-bit-at-requires c κs = search needs
-
-add-r : tie.Need-add-r Inv-loop μ-loop
-add-r c =
-    let a = c .before .before .before .before .args in
-    let bit : c .bit-at .result < 2 = rw (c .bit-at .ensures) (bitAt-below _ _) in
-    omega (arith, read-small (a .bytes .now) (a .s * a .d) (c .before .before .loop .k) (omega arith))
-
-add-k : tie.Need-add-k Inv-loop μ-loop
-add-k c = search needs
-
-loop-less : tie.Need-loop-less Inv-loop μ-loop
-loop-less c = search needs
-
-loop-again : tie.Need-loop-again Inv-loop μ-loop
-loop-again c =
-    let a = c .before .before .before .before .args in
-    (omega arith, omega (arith, read-more (a .bytes .now) (a .s * a .d) (c .before .before .loop .k)))
-
-returns : tie.Need-returns Inv-loop μ-loop
+returns : tie.Need-returns
 returns c =
     let a = c .before .before .before .args in
-    let last : c .before .loop .k ≡ a .d = omega arith in
-    subst (ReadBits (a .d) (a .s) (a .bytes .now))
-    (sym (c .before .loop .inv .1 ∙ ap (readFrom (a .bytes .now) (a .s * a .d)) last))
-    (read-all (a .bytes .now) (a .d) (a .s))
+    rw (power (a .d) (search needs))
+    (read-two (a .bytes .now) (c .before .byte .result) (c .byte2 .result) (a .s * a .d / 8)
+    (c .before .byte .ensures) (c .byte2 .ensures) (omega arith)
+    (a .d) (a .s) (a .s * a .d % 8) (search needs) (omega arith) (omega arith))
 
 pub step-bits-spec : {M : Type 1} → statement M
 step-bits-spec =
     tie.close
     (tie.spec
-    Inv-loop
-    μ-loop
     mul-first
-    loop-holds
-    mul-r
-    add-bit-at
-    bit-at-requires
-    add-r
-    add-k
-    loop-less
-    loop-again
+    byte-requires
+    cast-high
+    add-byte
+    byte-requires-2
+    cast-low
+    mul-result
+    add-result
+    sub-result
+    sub-result-2
+    shr-result
+    shl-result
+    rem-result
     returns)

@@ -6,7 +6,7 @@ use mir.Facts.{sfits-lit}
 use mir.Syntax.{w8}
 use mir.Val.{ofZ}
 use Rattle.ladder.proofs.Tests.{isUnit-says, says-yes, says-no}
-use Rattle.walk.proofs.Judging.{same-sign}
+use Rattle.walk.proofs.Judged.{same-sign}
 use Rattle.walk.proofs.judge.is_unit.Statement.{statement}
 use Rattle.walk.proofs.judge.is_unit.Tie as tie
 

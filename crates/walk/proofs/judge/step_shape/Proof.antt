@@ -2,7 +2,7 @@
 -- Assumes nothing.
 use mathlib.Core.Path.{sym}
 use borrow.Author.Tests.{lt-ltb, le-ltb}
-use Rattle.walk.proofs.Judging.{no-high-bits, high-bits}
+use Rattle.walk.proofs.Judged.{no-high-bits, high-bits}
 use Rattle.ladder.specs.Refusals.{stepShape}
 use Rattle.refuse.proofs.Laws.{unless-yes, unless-no}
 use borrow.Author.Needs.{needs}

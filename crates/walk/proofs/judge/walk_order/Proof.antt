@@ -7,7 +7,7 @@ use lib.ListN.{length}
 use lib.Seq.{length-take-le}
 use Rattle.refuse.proofs.Laws.{unless-yes, unless-no}
 use Rattle.walk.specs.WalkState.{walkState}
-use Rattle.walk.proofs.Judging.{order-fails, units-fail, rest-decides}
+use Rattle.walk.proofs.Judged.{order-fails, units-fail, rest-decides}
 use borrow.Author.Needs.{needs}
 use Rattle.walk.proofs.judge.walk_order.Statement.{statement}
 use Rattle.walk.proofs.judge.walk_order.Tie as tie

@@ -10,7 +10,7 @@ use mir.Facts.{sfits-lit}
 use mir.Syntax.{w8}
 use mir.Val.{SFits, ofZ}
 use Rattle.ladder.proofs.Tests.{says-yes, says-no}
-use Rattle.walk.proofs.Judging.{same-sign, Free, zeros-says, eight-seen}
+use Rattle.walk.proofs.Judged.{same-sign, Free, zeros-says, eight-seen}
 use borrow.Author.Needs.{needs}
 use Rattle.walk.proofs.judge.zeros_past.Statement.{statement}
 use Rattle.walk.proofs.judge.zeros_past.Tie as tie

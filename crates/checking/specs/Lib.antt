@@ -1,0 +1,3 @@
+-- `Promise` is what check promises. `Inner` holds what only inner contracts need: no promise rests on it.
+pub mod Promise
+pub mod Inner

@@ -1,0 +1,2 @@
+-- What only inner contracts need; the promise stands in the crate `run`.
+pub mod Inner

@@ -1,0 +1,6 @@
+// The difference run of a plan over words by a modulus: each addition has one register and a vector. The public call is `difference_run`.
+mod addition;
+mod call;
+mod steps;
+
+pub use call::difference_run;

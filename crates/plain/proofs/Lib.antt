@@ -1,0 +1,3 @@
+-- Laws of the plain run.
+pub mod Stepping
+pub mod Ran
