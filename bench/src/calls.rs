@@ -59,13 +59,6 @@ pub const PAIRS: [Pair; 6] = [
     },
 ];
 
-/// The proved difference run against one that carries the combination along, which the rules do not allow.
-pub const CARRIED: Pair = Pair {
-    name: "difference_run, carried",
-    proved: Call::Run(proved::difference_run),
-    plain: Call::Run(plain::carried_run),
-};
-
 /// What is lent to be read.
 #[derive(Clone, Debug)]
 pub struct Input {

@@ -1,6 +1,6 @@
 //! Calls for a tool that counts instructions: it is told to count inside `counted` alone, and to write down its count and begin anew
 //! where `mark` is entered.
-use crate::calls::{Call, Input, Output, CARRIED, PAIRS};
+use crate::calls::{Call, Input, Output, PAIRS};
 use crate::random::Random;
 use crate::tables::SIZES;
 use std::hint::black_box;
@@ -22,7 +22,7 @@ extern "C" fn bench_counted(call: &Call, input: &Input, output: &mut Output) -> 
 
 /// Makes the calls, a section for each size, call and side. Each section's name is printed before a mark begins it.
 pub fn count(seed: u64) {
-    for pair in PAIRS.iter().chain([&CARRIED]) {
+    for pair in &PAIRS {
         for (d, l) in SIZES {
             for call in [pair.proved, pair.plain] {
                 println!("{CALLS} {d} {l} {}", pair.name);

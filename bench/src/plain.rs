@@ -10,5 +10,5 @@ mod trace;
 
 pub use decode::{check, decode};
 pub use encode::encode;
-pub use run::{carried_run, difference_run, plain_run};
+pub use run::{difference_run, plain_run};
 pub use trace::trace;

@@ -1,5 +1,5 @@
 //! The tables, in Markdown.
-use crate::calls::{Pair, CARRIED, PAIRS};
+use crate::calls::{Pair, PAIRS};
 use crate::timing::{time, Cell, INPUTS};
 
 pub const SIZES: [(usize, usize); 4] = [(1, 256), (2, 256), (4, 256), (8, 576)];
@@ -12,7 +12,6 @@ const ROUNDS: usize = 5;
 pub fn ratios(seed: u64) {
     let mut cells: Vec<Cell> = PAIRS
         .iter()
-        .chain([&CARRIED])
         .flat_map(|pair| SIZES.map(|(d, l)| Cell::new(pair, d, l, seed)))
         .collect();
     time(&mut cells, TURNS, ROUNDS);

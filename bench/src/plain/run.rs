@@ -62,29 +62,6 @@ pub fn difference_run(
     refusal
 }
 
-/// The difference run with the combination of the elements carried from one addition to the next. The rules do not allow it, since
-/// an addition is to be handed its vector; it shows what that costs.
-#[allow(clippy::too_many_arguments)]
-pub fn carried_run(
-    d: u64,
-    l: u64,
-    start: &[u8],
-    bits: &[u8],
-    row: u64,
-    m: u64,
-    elements: &[u64],
-    registers: &mut [u64],
-    answer: &mut u64,
-    doublings: &mut u64,
-    additions: &mut u64,
-) -> u64 {
-    let ran = judge(d, l, start, bits, row, m, elements, registers)
-        .map(|plan| finish(&plan, carried_steps(&plan, m, elements), registers));
-    let (refusal, ran) = refuse::answer(ran);
-    (*answer, *doublings, *additions) = ran;
-    refusal
-}
-
 #[allow(clippy::too_many_arguments)]
 fn judge<'a>(
     d: u64,
@@ -122,21 +99,22 @@ fn start_registers(plan: &Plan, m: u64, elements: &[u64]) -> Registers {
 fn plain_steps(plan: &Plan, m: u64, elements: &[u64]) -> Registers {
     let mut reader = Reader::new(plan.bits);
     let mut registers = start_registers(plan, m, elements);
+    let mut spare = Registers::default();
+    let (mut old, mut new) = (&mut registers, &mut spare);
     for _ in 0..plan.size.l {
-        registers = plain_step(m, plan.size.d, reader.next(plan.size.d), &registers);
+        plain_step(m, plan.size.d, reader.next(plan.size.d), old, new);
+        std::mem::swap(&mut old, &mut new);
     }
-    registers
+    *old
 }
 
-fn plain_step(m: u64, d: usize, r: u32, old: &Registers) -> Registers {
-    let mut new = Registers::default();
+fn plain_step(m: u64, d: usize, r: u32, old: &Registers, new: &mut Registers) {
     let mut x = r.count_ones() as usize;
     new[0] = add(m, old[x], old[x]);
     for k in 1..=d {
         x -= (r >> (d - k) & 1) as usize;
         new[k] = add(m, old[x], old[x + k]);
     }
-    new
 }
 
 /// The addition of the difference run: twice register x, and the elements' combination by the vector.
@@ -152,10 +130,11 @@ fn difference_steps(plan: &Plan, m: u64, elements: &[u64]) -> Registers {
     let mut reader = Reader::new(plan.bits);
     let mut order = from_start(plan.start);
     let mut signs = [1i8; 8];
-    let mut old = start_registers(plan, m, elements);
+    let mut registers = start_registers(plan, m, elements);
+    let mut spare = Registers::default();
+    let (mut old, mut new) = (&mut registers, &mut spare);
     for _ in 0..plan.size.l {
         let r = reader.next(d);
-        let mut new = Registers::default();
         let mut vector = [0i8; 8];
         let h = r.count_ones() as usize;
         new[0] = add(m, old[h], old[h]);
@@ -167,32 +146,7 @@ fn difference_steps(plan: &Plan, m: u64, elements: &[u64]) -> Registers {
                 *sign = -*sign;
             }
         });
-        old = new;
+        std::mem::swap(&mut old, &mut new);
     }
-    old
-}
-
-fn carried_steps(plan: &Plan, m: u64, elements: &[u64]) -> Registers {
-    let d = plan.size.d;
-    let mut reader = Reader::new(plan.bits);
-    let mut order = from_start(plan.start);
-    let mut signs = [1i8; 8];
-    let mut old = start_registers(plan, m, elements);
-    for _ in 0..plan.size.l {
-        let r = reader.next(d);
-        let mut new = Registers::default();
-        let mut carried = 0;
-        let h = r.count_ones() as usize;
-        new[0] = add(m, old[h], old[h]);
-        order = advance(&order, d, r, |a| {
-            let sign = &mut signs[a.column];
-            carried = add(m, carried, times(m, *sign, elements[a.column]));
-            new[a.y - a.x] = add(m, add(m, old[a.x], old[a.x]), carried);
-            if a.bit == 1 {
-                *sign = -*sign;
-            }
-        });
-        old = new;
-    }
-    old
+    *old
 }
