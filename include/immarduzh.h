@@ -65,7 +65,7 @@ enum immarduzh_refusal {
     IMMARDUZH_MODULUS = 7, /* the modulus is above 2^63 */
     IMMARDUZH_ELEMENT = 8, /* an element is not below a modulus other than 0 */
     IMMARDUZH_TRAILER = 9, /* a plan file is shorter than 12 bytes, or has a wrong mark or a wrong back distance */
-    IMMARDUZH_BIG = 10     /* more than 4,096 bytes are to be listed: no call answers it, a listing's text says it */
+    IMMARDUZH_BIG = 10     /* more than 4,096 bytes are to be listed */
 };
 
 #define IMMARDUZH_LARGEST_D 8
@@ -193,9 +193,10 @@ uint64_t immarduzh_unpack(const uint8_t *file, size_t file_len, uint64_t *d, uin
 uint64_t immarduzh_body(const uint8_t *file, size_t file_len, uint64_t *offset, uint64_t *length);
 
 /*
- * Listing. Refuses 3, for a text buffer that does not have exactly IMMARDUZH_TEXT_BYTES bytes. Writes the listing of the plan file at the
- * start of text and answers its length; the bytes past it are as they came, and no 0 byte ends it. A file that is refused has a listing
- * too, the line `refused` and the number, which is 10 for more than 4,096 bytes, tested before all others, else that of unpack.
+ * Listing. Refuses 10 for a file of more than IMMARDUZH_LISTED_BYTES bytes; 3 for a text buffer that does not have exactly
+ * IMMARDUZH_TEXT_BYTES bytes; then as unpack. Writes the plan's lines at the start of text: `plan`, d, l and row; `start` and the order; for
+ * each step its number and its bits, r1 first; `value` and the decoded entries in hexadecimal. Answers how many bytes they are; the bytes
+ * past them are as they came, and no 0 byte ends them.
  */
 uint64_t immarduzh_listing(const uint8_t *file, size_t file_len, uint8_t *text, size_t text_len, uint64_t *length);
 

@@ -403,6 +403,15 @@ static void lists(const uint8_t *file, size_t bytes, const char *words)
     WANT(memcmp(text, words, many) == 0 && untouched(text + many, sizeof text - many));
 }
 
+/* The listing of a file into a buffer of so many bytes is refused with a number: the length is 0, and the buffer is as it came. */
+static void not_listed(uint64_t number, const uint8_t *file, size_t bytes, size_t room)
+{
+    uint64_t length = 77;
+    memset(text, 0xA5, sizeof text);
+    WANT(immarduzh_listing(file, bytes, text, room, &length) == number && length == 0);
+    WANT(untouched(text, sizeof text));
+}
+
 static void plan_file(void)
 {
     uint64_t d, l, row, offset, length;
@@ -417,8 +426,6 @@ static void plan_file(void)
     WANT(immarduzh_unpack(big, sizeof big, &d, &l, &row) == IMMARDUZH_OK && d == 2 && l == 7 && row == 3);
     WANT(immarduzh_body(big, sizeof big, &offset, &length) == IMMARDUZH_OK && offset == sizeof big - 16 && length == 4);
     lists(big + 1, IMMARDUZH_LISTED_BYTES, listed);
-    lists(big, sizeof big, "refused 10\n");
-    lists(big, sizeof big - 1, "refused 9\n");
     group("plan file and listing of the rules");
 }
 
@@ -427,14 +434,13 @@ static void file_refused(uint64_t number, size_t from, size_t at, uint8_t byte, 
 {
     uint8_t file[16];
     uint64_t d = 77, l = 77, row = 77, offset = 77, length = 77;
-    char words[] = "refused 0\n";
     memcpy(file, example, 16);
     file[at] = byte;
     file[at_2] = byte_2;
-    words[8] = (char)('0' + number);
     WANT(immarduzh_unpack(file + from, 16 - from, &d, &l, &row) == number && d == 0 && l == 0 && row == 0);
     WANT(immarduzh_body(file + from, 16 - from, &offset, &length) == number && offset == 0 && length == 0);
-    lists(file + from, 16 - from, words);
+    not_listed(number, file + from, 16 - from, IMMARDUZH_TEXT_BYTES);
+    not_listed(IMMARDUZH_SHAPE, file + from, 16 - from, IMMARDUZH_TEXT_BYTES - 1);
 }
 
 static void file_refusals(void)
@@ -457,18 +463,24 @@ static void file_refusals(void)
     group("refusals of plan files");
 }
 
-static void listing_shapes(void)
+/* 10 comes before 3, and both before what the file holds: the example behind other bytes, then with another mark. */
+static void listing_refusals(void)
 {
-    static const size_t counts[] = {0, 1, IMMARDUZH_TEXT_BYTES - 1, IMMARDUZH_TEXT_BYTES + 1};
-    size_t i;
+    static const size_t other[] = {0, 1, IMMARDUZH_TEXT_BYTES - 1, IMMARDUZH_TEXT_BYTES + 1};
+    static const uint8_t mark_ends[] = {0x6C, 0x32};
+    size_t i, j;
     about = "listing";
-    memset(text, 0xA5, sizeof text);
-    for (i = 0; i < COUNT(counts); i++) {
-        uint64_t length = 77;
-        WANT(immarduzh_listing(example, 16, text, counts[i], &length) == IMMARDUZH_SHAPE && length == 0);
-        WANT(immarduzh_listing(example, 3, text, counts[i], &length) == IMMARDUZH_SHAPE && length == 0);
-        WANT(untouched(text, sizeof text));
+    memset(big, 0xFF, sizeof big);
+    memcpy(big + sizeof big - 16, example, 16);
+    for (i = 0; i < COUNT(mark_ends); i++) {
+        big[sizeof big - 1] = mark_ends[i];
+        for (j = 0; j < COUNT(other); j++) {
+            not_listed(IMMARDUZH_SHAPE, big + 1, IMMARDUZH_LISTED_BYTES, other[j]);
+            not_listed(IMMARDUZH_BIG, big, sizeof big, other[j]);
+        }
+        not_listed(IMMARDUZH_BIG, big, sizeof big, IMMARDUZH_TEXT_BYTES);
     }
+    not_listed(IMMARDUZH_TRAILER, big + 1, IMMARDUZH_LISTED_BYTES, IMMARDUZH_TEXT_BYTES);
     group("refusals of listing");
 }
 
@@ -494,7 +506,7 @@ static void empty_buffers(void)
     WANT(immarduzh_body(NULL, 0, &a, &b) == IMMARDUZH_TRAILER && a == 0 && b == 0);
     a = 77;
     WANT(immarduzh_listing(NULL, 0, NULL, 0, &a) == IMMARDUZH_SHAPE && a == 0);
-    lists(NULL, 0, "refused 9\n");
+    not_listed(IMMARDUZH_TRAILER, NULL, 0, IMMARDUZH_TEXT_BYTES);
     group("empty buffers");
 }
 
@@ -594,7 +606,7 @@ int main(void)
     step_refusals();
     plan_file();
     file_refusals();
-    listing_shapes();
+    listing_refusals();
     empty_buffers();
     lengths();
     largest();

@@ -9,10 +9,7 @@ const MARK: [u8; 4] = [0x64, 0x6d, 0x75, 0x6c];
 const TRAILER: usize = 12;
 
 /// The longest text of a listing.
-const LONGEST_TEXT: usize = 8589;
-
-/// The most bytes that are listed.
-const MOST_BYTES: usize = 4096;
+const LONGEST_TEXT: u128 = 8589;
 
 /// The bytes of a body: d + ceil(l*d/8).
 fn body_bytes(d: u64, l: u64) -> u128 {
@@ -110,16 +107,8 @@ fn line(first: &str, fields: impl Iterator<Item = String>) -> String {
     fields.fold(first.to_string(), |line, field| line + " " + &field) + "\n"
 }
 
-/// What the listing program writes for these bytes.
-pub fn text(file: &[u8]) -> String {
-    let refused = |n: u64| format!("refused {n}\n");
-    if file.len() > MOST_BYTES {
-        return refused(10);
-    }
-    let plan = match unpack(file) {
-        Ok(plan) => plan,
-        Err(refusal) => return refused(refusal),
-    };
+/// The lines of a plan.
+fn text(plan: &Plan) -> String {
     let mut text = format!("plan {} {} {}\n", plan.d, plan.l, plan.row);
     text += &line("start", plan.start.iter().map(u8::to_string));
     for s in 0..plan.l as usize {
@@ -133,13 +122,22 @@ pub fn text(file: &[u8]) -> String {
     text + &line("value", plan.answer_row().iter().map(hexadecimal))
 }
 
+/// The plan that is listed into a buffer of this length, or the number with which the listing is refused.
+fn to_list(file: &[u8], buffer: usize) -> Result<Plan<'_>, u64> {
+    match refuse::first(&[refuse::big(file.len()), refuse::shape(buffer, LONGEST_TEXT)]) {
+        refuse::OK => unpack(file),
+        refusal => Err(refusal),
+    }
+}
+
 /// The refusal and the length of the text; writes it at the buffer's start.
 pub fn listing(file: &[u8], buffer: &mut [u8]) -> (u64, usize) {
-    let refusal = refuse::shape(buffer.len(), LONGEST_TEXT as u128);
-    if refusal != refuse::OK {
-        return (refusal, 0);
+    match to_list(file, buffer.len()) {
+        Ok(plan) => {
+            let text = text(&plan);
+            buffer[..text.len()].copy_from_slice(text.as_bytes());
+            (refuse::OK, text.len())
+        }
+        Err(refusal) => (refusal, 0),
     }
-    let text = text(file);
-    buffer[..text.len()].copy_from_slice(text.as_bytes());
-    (refuse::OK, text.len())
 }

@@ -12,6 +12,9 @@ const EDGES: [u64; 12] = [1, 2, 7, 8, 9, 63, 64, 65, 127, 128, 129, 575];
 
 const LONGEST: u64 = 576;
 
+/// The longest file that `conform` holds.
+const MOST_HELD: usize = 65536;
+
 fn length(random: &mut Random) -> u64 {
     match random.below(8) {
         0 => LONGEST,
@@ -121,7 +124,7 @@ fn with_file(random: &mut Random, request: &mut Request) {
     let at = packed.len() - 13;
     packed[at] = *request.bits.last().expect("a byte");
     let preface = match random.below(8) {
-        0 if random.once_in(32) => 65536 - packed.len(),
+        0 if request.call != LISTING && random.once_in(32) => MOST_HELD - packed.len(),
         0 => 4096 - packed.len(),
         1..=3 => random.below(40) as usize,
         _ => 0,
@@ -270,6 +273,16 @@ fn spoil_elements(random: &mut Random, request: &mut Request) {
     }
 }
 
+/// Bytes put before a file, so that it is longer than what is listed: by one, by two, or as long as can be.
+fn lengthen(random: &mut Random, file: &mut Vec<u8>) {
+    let length = match random.below(32) {
+        0 => MOST_HELD,
+        n => 4097 + n as usize % 2,
+    };
+    let more = random.bytes(length.saturating_sub(file.len()));
+    file.splice(0..0, more);
+}
+
 /// A byte of the trailer or the body changed, or bytes taken away or put in.
 fn spoil_file(random: &mut Random, file: &mut Vec<u8>) {
     let n = file.len();
@@ -281,11 +294,7 @@ fn spoil_file(random: &mut Random, file: &mut Vec<u8>) {
             let drop = random.below(n as u64 + 1) as usize;
             file.drain(..drop);
         }
-        2 if n < 4200 => {
-            let over = random.below(2) as usize;
-            let more = random.bytes(4097 - n.min(4097) + over);
-            file.splice(0..0, more);
-        }
+        2 => lengthen(random, file),
         3 if n > 12 => {
             let distance = usize::from(file[n - 8]) + 256 * usize::from(file[n - 7]);
             let d = u64::from(file[n - 12]).clamp(1, 8);
@@ -306,12 +315,21 @@ fn spoil_file(random: &mut Random, file: &mut Vec<u8>) {
     }
 }
 
+/// A text buffer of another length, a file that is longer than what is listed, or another fault of the file.
+fn spoil_listing(random: &mut Random, request: &mut Request) {
+    match random.below(6) {
+        0 => request.out = other_length(random, request.out),
+        1 => lengthen(random, &mut request.bits),
+        _ => spoil_file(random, &mut request.bits),
+    }
+}
+
 /// More than the program holds, by one or by more than it reads at a time.
 fn lend_too_much(random: &mut Random, request: &mut Request) {
     let more = random.one_of(&[0, 0, 0, 0, 70000]);
     match random.below(4) {
         0 => request.start.resize(65 + more, 1),
-        1 => request.bits.resize(65537 + more, 255),
+        1 => request.bits.resize(MOST_HELD + 1 + more, 255),
         2 => request.words.resize(129 + more, u64::MAX >> more.min(60)),
         _ => request.out = 51905,
     }
@@ -325,11 +343,7 @@ fn spoil(random: &mut Random, request: &mut Request) {
     match request.call {
         STEP => return spoil_walk(random, request),
         UNPACK | BODY => return spoil_file(random, &mut request.bits),
-        LISTING if random.once_in(8) => {
-            request.out = other_length(random, request.out);
-            return;
-        }
-        LISTING => return spoil_file(random, &mut request.bits),
+        LISTING => return spoil_listing(random, request),
         PLAIN | DIFFERENCE if random.once_in(2) => return spoil_elements(random, request),
         ENCODE | CHECK if random.once_in(4) => return spoil_scalar(random, request),
         _ => (),

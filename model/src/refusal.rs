@@ -52,6 +52,11 @@ pub fn element(m: u64, elements: &[u64]) -> u64 {
     unless(m == 0 || elements.iter().all(|&e| e < m), 8)
 }
 
+/// More bytes than are listed.
+pub fn big(bytes: usize) -> u64 {
+    unless(bytes <= 4096, 10)
+}
+
 /// Words of a scalar: ceil(l/64).
 pub fn scalar_words(l: u64) -> u128 {
     u128::from(l).div_ceil(64)

@@ -31,8 +31,9 @@ pub fn body(file: &[u8]) -> Result<&[u8], Refusal> {
     Refusal::unless(number, part(file, offset as usize, length as usize))
 }
 
-/// Writes the listing of a file into a buffer of exactly [`TEXT_BYTES`](crate::TEXT_BYTES) bytes and hands back the part of it that is the
-/// text; the bytes past it are as they came. Refuses 3. A file that is refused has a listing too, which says its number.
+/// Writes the lines of the plan that a file ends with into a buffer of exactly [`TEXT_BYTES`](crate::TEXT_BYTES) bytes and hands back the
+/// part of it that is the text; the bytes past it are as they came. Refuses 10 (more than [`LISTED_BYTES`](crate::LISTED_BYTES) bytes of
+/// file), 3, and then as [`unpack`].
 pub fn listing<'t>(file: &[u8], text: &'t mut [u8]) -> Result<&'t [u8], Refusal> {
     let mut length = 0;
     // SAFETY: as in `unpack`; the text is the call's alone.

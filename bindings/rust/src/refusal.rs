@@ -23,7 +23,7 @@ pub enum Refusal {
     Element,
     /// 9: a plan file is shorter than 12 bytes, or has a wrong mark or a wrong back distance.
     Trailer,
-    /// 10: more than 4,096 bytes are to be listed. No call answers it: a listing's text says it.
+    /// 10: more than 4,096 bytes are to be listed.
     Big,
     /// A number that the table does not have. The library that these bindings are for answers none.
     Unknown(u64),

@@ -324,53 +324,53 @@ fn files() -> Vec<(Vec<u8>, u64)> {
     ]
 }
 
+/// The number of a listing into a buffer of this length, which is as it came past the text.
+fn call_listing(file: &[u8], length: usize) -> u64 {
+    let mut buffer = vec![b'#'; length];
+    let text = listing(file, &mut buffer).map(<[u8]>::len);
+    let past = text.unwrap_or(0);
+    assert!(buffer[past..].iter().all(|&b| b == b'#'));
+    number(text, &buffer, b'#')
+}
+
 #[test]
 fn files_are_refused() {
     for (file, want) in files() {
         assert_eq!(number(unpack(&file), &[0; 0], 0), want, "{file:02x?}");
         assert_eq!(number(body(&file), &[0; 0], 0), want, "{file:02x?}");
-        let mut buffer = [b'#'; TEXT_BYTES];
-        let text = listing(&file, &mut buffer).expect("the buffer has its length");
-        let line = format!("refused {want}\n");
-        assert_eq!(text == line.as_bytes(), want != 0, "{file:02x?}");
-        let past = text.len();
-        assert!(buffer[past..].iter().all(|&b| b == b'#'));
+        assert_eq!(call_listing(&file, TEXT_BYTES), want, "{file:02x?}");
     }
 }
 
+const OTHER_TEXT_BYTES: [usize; 4] = [0, 1, TEXT_BYTES - 1, TEXT_BYTES + 1];
+
 #[test]
-fn listing_refuses_the_buffer_alone() {
-    for length in [0, 1, TEXT_BYTES - 1, TEXT_BYTES + 1] {
-        for file in [file_with(&[]), Vec::new()] {
-            let mut buffer = vec![b'#'; length];
-            assert_eq!(listing(&file, &mut buffer), Err(Refusal::Shape));
-            assert!(buffer.iter().all(|&b| b == b'#'));
+fn listing_refuses_the_buffer_before_the_file() {
+    for (file, _) in files() {
+        for length in OTHER_TEXT_BYTES {
+            assert_eq!(call_listing(&file, length), 3, "{length}: {file:02x?}");
         }
     }
 }
 
 #[test]
-fn listing_of_long_files() {
-    let sound = file_with(&[]);
+fn listing_refuses_long_files_before_all_else() {
     for (length, long) in [
         (LISTED_BYTES, false),
         (LISTED_BYTES + 1, true),
         (9000, true),
     ] {
         let mut file = vec![0xFF; length];
-        file[length - 16..].copy_from_slice(&sound);
+        file[length - 16..].copy_from_slice(&file_with(&[]));
         assert!(unpack(&file).is_ok());
-        let mut buffer = [b'#'; TEXT_BYTES];
-        let text = listing(&file, &mut buffer);
-        assert_eq!(text == Ok(b"refused 10\n"), long);
-        // Number 10 is tested before all others.
-        file[length - 1] = 0;
-        let want: &[u8] = if long {
-            b"refused 10\n"
-        } else {
-            b"refused 9\n"
-        };
-        assert_eq!(listing(&file, &mut buffer), Ok(want));
+        let of = |number: u64| if long { 10 } else { number };
+        for (mark_end, want) in [(b'l', 0), (b'2', 9)] {
+            file[length - 1] = mark_end;
+            assert_eq!(call_listing(&file, TEXT_BYTES), of(want), "{length}");
+            for other in OTHER_TEXT_BYTES {
+                assert_eq!(call_listing(&file, other), of(3), "{length}, {other}");
+            }
+        }
     }
 }
 

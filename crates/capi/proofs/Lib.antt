@@ -1,5 +1,5 @@
 -- Laws of the calls for C and for Rust.
 mod Bodies
-mod InPlace
+pub mod InPlace
 pub mod Promised
 pub mod Unique

@@ -76,10 +76,10 @@ trace-unique x y =
     )
 
 -- A run that leaves the registers wanted ..
-pub run-unique : {p : Plan} {m : ℕ} {elements registers wanted : List ℕ}
+pub run-unique : {p : Plan} {refusal : ℕ} {registers wanted : List ℕ}
     {r s answer answerOther doublings doublingsOther additions additionsOther : ℕ} {registersAfter registersOther : List ℕ}
-    → RunPromise p m elements registers wanted (ran r answer doublings additions) registersAfter
-    → RunPromise p m elements registers wanted (ran s answerOther doublingsOther additionsOther) registersOther
+    → RunPromise p refusal registers wanted (ran r answer doublings additions) registersAfter
+    → RunPromise p refusal registers wanted (ran s answerOther doublingsOther additionsOther) registersOther
     → (r ≡ s) × (answer ≡ answerOther) × (doublings ≡ doublingsOther) × (additions ≡ additionsOther) × (registersAfter ≡ registersOther)
 run-unique x y =
     let u = running.run-unique x y in (
@@ -91,20 +91,20 @@ run-unique x y =
     )
 
 -- .. the plain run ..
-pub plain-unique : {p : Plan} {m : ℕ} {elements registers : List ℕ}
+pub plain-unique : (m : ℕ) (elements : List ℕ) {p : Plan} {registers : List ℕ}
     {r s answer answerOther doublings doublingsOther additions additionsOther : ℕ} {registersAfter registersOther : List ℕ}
     → PlainPromise p m elements registers (ran r answer doublings additions) registersAfter
     → PlainPromise p m elements registers (ran s answerOther doublingsOther additionsOther) registersOther
     → (r ≡ s) × (answer ≡ answerOther) × (doublings ≡ doublingsOther) × (additions ≡ additionsOther) × (registersAfter ≡ registersOther)
-plain-unique x y = run-unique x y
+plain-unique m elements x y = run-unique x y
 
 -- .. and the difference run.
-pub difference-unique : {p : Plan} {m : ℕ} {elements registers : List ℕ}
+pub difference-unique : (m : ℕ) (elements : List ℕ) {p : Plan} {registers : List ℕ}
     {r s answer answerOther doublings doublingsOther additions additionsOther : ℕ} {registersAfter registersOther : List ℕ}
     → DifferencePromise p m elements registers (ran r answer doublings additions) registersAfter
     → DifferencePromise p m elements registers (ran s answerOther doublingsOther additionsOther) registersOther
     → (r ≡ s) × (answer ≡ answerOther) × (doublings ≡ doublingsOther) × (additions ≡ additionsOther) × (registersAfter ≡ registersOther)
-difference-unique x y = run-unique x y
+difference-unique m elements x y = run-unique x y
 
 -- Pack.
 pub pack-unique : {p : Plan} {file : List ℕ} {r s : ℕ} {fileAfter fileOther : List ℕ}

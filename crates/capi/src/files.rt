@@ -1,15 +1,11 @@
 // The plan file: pack, unpack, the body's place, and the listing.
+use plan::OK;
+use plan::TRAILER_SIZE;
 ghost use Rattle.ladder.specs.Plan.{planLent};
 ghost use Rattle.planfile.specs.Promise.{PackPromise, UnpackPromise};
 ghost use Rattle.listing.specs.Promise.{ListingPromise};
 ghost use Rattle.capi.specs.Answers.{unpacked, listed};
 ghost use Rattle.capi.specs.Promise.{BodyPlacePromise};
-
-// The refusal where nothing is refused.
-const OK: u64 = 0;
-
-// The bytes of a plan file's trailer.
-const TRAILER_SIZE: usize = 12;
 
 // Writes the file of a plan.
 #[no_mangle]

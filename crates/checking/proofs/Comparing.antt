@@ -10,12 +10,12 @@ use Rattle.ladder.specs.Numbers.{numbersOf, wordsOfAll, scalarWords, scalarsLen
 use Rattle.ladder.specs.Plan.{Plan, answerRow}
 use Rattle.ladder.specs.Refusals.{scalarsIn, sameNumbers}
 use Rattle.ladder.specs.Walk.{Walk}
-use Rattle.ladder.proofs.Refusals.{Accepted}
 use Rattle.ladder.proofs.Operations.{PlanOk}
 use Rattle.ladder.proofs.Demand2.{decode-words}
-use Rattle.walk.specs.Inner.Ready.{started}
-use Rattle.decode.specs.Inner.{walkedRow}
-use Rattle.decode.proofs.Decoded.{at-start, started-d, row-decoded}
+use Rattle.scalars.specs.Inner.{Shaped}
+use Rattle.values.specs.Inner.{walkedRow}
+use Rattle.judge.proofs.Starting.{startOf}
+use Rattle.values.proofs.Decoded.{begun-d, at-start, row-decoded}
 use Rattle.checking.specs.Inner.{Checkable, rowSame}
 
 -- Values that hold the row, k words each, hold the scalars, n words each, exactly where the row does.
@@ -35,23 +35,31 @@ scratch-room {w} {l} p =
 
 -- ---- a plan that is not refused
 
--- The row can be compared with the scalars ..
-pub checkable : (p : Plan) (scalars : List ℕ) → PlanOk p → length scalars ≡ scalarsLength (p .d) (p .l) → (w : Walk) → w ≡ started (p .d) (p .start)
-    → Checkable w (p .l) (p .bits) (p .answer - 1) scalars
-unfolding scalarsLength valuesLength
-checkable p scalars ok long w e =
-    let same = started-d (p .d) (p .start) w e in
-    record {
-      inside = omega (arith, same, ok .plan .answerHigh);
-      begun = λ values h. at-start p values ok (h ∙ ap (λ n. n * valueWords (p .l)) same) w e;
-      long = long ∙ ap (λ n. n * scalarWords (p .l)) (sym same);
-    }
+module _ (p : Plan) (ok : PlanOk p) (scalars : List ℕ) where
+  module _ (long : length scalars ≡ scalarsLength (p .d) (p .l)) where
+    -- Scalars of their length can be judged ..
+    pub shaped : Shaped (p .d) (p .l) scalars
+    unfolding scalarsLength
+    shaped =
+        let a = ok .plan in
+        record { range = record { dLow = a .dLow; dHigh = a .dHigh; lLow = a .lLow; lHigh = a .lHigh }; long = long }
 
--- .. and what comparing says is whether the answer row is the scalars.
-pub row-says : (p : Plan) (scalars : List ℕ) → Accepted p → (w : Walk) → w ≡ started (p .d) (p .start)
-    → rowSame w (p .l) (p .bits) (p .answer - 1) scalars ≡ sameNumbers (answerRow p) (scalarsIn (p .d) (p .l) scalars)
-unfolding rowSame scalarsIn
-row-says p scalars ok w e =
-    ap₂ (λ n v. sameNumbers (numbersOf n (valueWords (p .l)) v) (numbersOf n (scalarWords (p .l)) scalars))
-    (started-d (p .d) (p .start) w e) (row-decoded p ok w e)
-    ∙ ap (λ v. sameNumbers v (numbersOf (p .d) (scalarWords (p .l)) scalars)) (decode-words p ok)
+    -- .. and compared with the row ..
+    pub checkable : {w : Walk} → w ≡ startOf p → Checkable w (p .l) (p .bits) (p .answer - 1) scalars
+    unfolding scalarsLength valuesLength
+    checkable begun =
+        let same = begun-d p begun in
+        record {
+          inside = omega (arith, same, ok .plan .answerHigh);
+          begun = λ values h. at-start p begun ok values (h ∙ ap (λ n. n * valueWords (p .l)) same);
+          long = long ∙ ap (λ n. n * scalarWords (p .l)) (sym same);
+        }
+
+  -- .. which says whether the answer row is the scalars.
+  pub row-says : {w : Walk} → w ≡ startOf p
+      → rowSame w (p .l) (p .bits) (p .answer - 1) scalars ≡ sameNumbers (answerRow p) (scalarsIn (p .d) (p .l) scalars)
+  unfolding rowSame scalarsIn
+  row-says begun =
+      ap₂ (λ n v. sameNumbers (numbersOf n (valueWords (p .l)) v) (numbersOf n (scalarWords (p .l)) scalars))
+      (begun-d p begun) (row-decoded p begun (ok .plan))
+      ∙ ap (λ v. sameNumbers v (numbersOf (p .d) (scalarWords (p .l)) scalars)) (decode-words p (ok .plan))

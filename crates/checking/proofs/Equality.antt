@@ -17,10 +17,10 @@ use Rattle.ladder.specs.Refusals.{sameNumbers}
 use Rattle.ladder.proofs.Numbers.{wordsOf-numberOf, numberOf-below, length-numbersOf, number-at}
 use Rattle.ladder.proofs.Tests.{says-yes, says-no}
 use Rattle.ladder.proofs.FileRefusals.{sameNumbers-says}
-use Rattle.decode.proofs.Partly.{getD-wordsOf}
+use Rattle.values.proofs.Partly.{getD-wordsOf}
 
 -- A word of a number.
-pub word-of : (ws : List ℕ) → ((i : ℕ) → getD ws i 0 < 2 ^ 64) → (i : ℕ) → getD ws i 0 ≡ numberOf ws / 2 ^ (64 * i) % 2 ^ 64
+word-of : (ws : List ℕ) → ((i : ℕ) → getD ws i 0 < 2 ^ 64) → (i : ℕ) → getD ws i 0 ≡ numberOf ws / 2 ^ (64 * i) % 2 ^ 64
 word-of ws words i = go (decLe (suc i) (length ws))
   where
     go : Dec (i < length ws) → getD ws i 0 ≡ numberOf ws / 2 ^ (64 * i) % 2 ^ 64
@@ -32,7 +32,7 @@ word-of ws words i = go (decLe (suc i) (length ws))
         ∙ sym (ap (λ q. q % 2 ^ 64) (div-eq-of-lt (lt-of-lt-of-le (numberOf-below (length ws) ws refl words) (pow-mono m))))
 
 -- Equal words make equal numbers ..
-pub numbers-same : (a b : List ℕ) → ((i : ℕ) → getD a i 0 ≡ getD b i 0) → numberOf a ≡ numberOf b
+numbers-same : (a b : List ℕ) → ((i : ℕ) → getD a i 0 ≡ getD b i 0) → numberOf a ≡ numberOf b
 unfolding numberOf
 numbers-same [] [] e = refl
 numbers-same [] (w ∷ b) e = ap₂ (λ x y. x + 2 ^ 64 * y) (e zero) (numbers-same [] b (λ i. e (suc i)))
@@ -58,7 +58,7 @@ values-differ a b wa wb i n =
 pub lists-same : (a b : List ℕ) → a ≡ b → true ≡ sameNumbers a b
 lists-same a b e = says-yes (sameNumbers-says a b) e
 
-pub lists-differ : (a b : List ℕ) → (a ≡ b → ⊥) → false ≡ sameNumbers a b
+lists-differ : (a b : List ℕ) → (a ≡ b → ⊥) → false ≡ sameNumbers a b
 lists-differ a b n = says-no (sameNumbers-says a b) n
 
 -- ---- values among words

@@ -8,7 +8,7 @@ use lib.ListN.{length}
 use Rattle.ladder.specs.Numbers.{numbersOf, wordsOfAll, scalarWords, valueWords}
 use Rattle.ladder.specs.Refusals.{sameNumbers}
 use Rattle.ladder.specs.Walk.{Walk}
-use Rattle.decode.specs.Inner.{AtStart, walkedRow}
+use Rattle.values.specs.Inner.{AtStart, walkedRow}
 
 -- What comparing a row with scalars asks: a row of the matrix, the start state of a walk, and scalars of their length.
 pub record Checkable (w : Walk) (l : ℕ) (bytes : List ℕ) (row : ℕ) (scalars : List ℕ) : Type 0 where

@@ -1,11 +1,10 @@
 // The public call `check`.
 use crate::row::row_is;
+use judge::Beside;
+use judge::loose_refusal;
+use judge::start_walk;
 use refuse::OK;
-use refuse::lent_plan;
-use refuse::scalars_length;
-use refuse::shape;
 use scalars::scalar_refusal;
-use walk::start::start_walk;
 ghost use mathlib.Core.Path.{_≡_};
 ghost use Rattle.ladder.specs.Plan.{planLent};
 ghost use Rattle.ladder.specs.Refusals.{checkRefusal};
@@ -22,8 +21,7 @@ pub struct Checked {
 fn check_refusal(d: u64, l: u64, start: &[u8], bits: &[u8], row: u64, scalars: &[u64]) -> u64
     ensures { λ r. ⌜ r ≡ checkRefusal (planLent d l (now (start .entry)) (now (bits .entry)) row) (now (scalars .entry)) ⌝ }
 {
-    let words = shape(scalars.len(), scalars_length(d, l));
-    let early = lent_plan(d, l, start, bits, row, words);
+    let early = loose_refusal(d, l, start, bits, row, Beside::Scalars(scalars.len()));
     if early != OK {
         return early;
     }

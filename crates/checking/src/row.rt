@@ -1,9 +1,9 @@
 // Whether a row of a plan's last matrix is the scalars.
 use crate::same::same_values;
-use decode::answer::answer_values;
-use decode::values::value_words;
 use scalars::scalar_words;
-use walk::state::Walk;
+use values::answer_values;
+use values::value_words;
+use walk::Walk;
 ghost use Prim.Native.Nat.{_*_};
 ghost use mathlib.Core.Path.{_≡_};
 ghost use lib.ListN.{length};

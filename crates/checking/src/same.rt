@@ -1,17 +1,11 @@
 // Whether decoded values are the scalars. A value can have one word more than a scalar.
+use lent::word;
 ghost use Prim.Native.Nat.{_*_, _≤_};
 ghost use mathlib.Core.Path.{_≡_};
 ghost use lib.Dec.{eqb};
-ghost use lib.ListN.{length, getD};
+ghost use lib.ListN.{length};
 ghost use Rattle.ladder.specs.Numbers.{numberOf, numbersOf};
 ghost use Rattle.ladder.specs.Refusals.{sameNumbers};
-
-// Word i of a number, 0 past its last.
-fn word(words: &[u64], i: usize) -> u64
-    ensures { λ r. ⌜ r ≡ getD (now (words .entry)) i 0 ⌝ }
-{
-    if i < words.len() { words[i] } else { 0 }
-}
 
 // Whether a value is a scalar, word by word.
 fn same_value(value: &[u64], scalar: &[u64]) -> bool

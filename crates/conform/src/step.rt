@@ -1,7 +1,8 @@
 // One line per step of a paused walk, whose order and signs a request has for start and bits.
 use crate::request::Head;
+use bits::signed_byte;
+use lent::byte;
 use plan::Walk;
-use trace::signed_byte;
 use wire::show;
 
 // A byte as a sign, two's complement.
@@ -12,18 +13,13 @@ fn sign(b: u8) -> i8 {
     (b as i16 - 256) as i8
 }
 
-// Byte i, 0 past the last.
-fn at(s: &[u8], i: usize) -> u8 {
-    if i < s.len() { s[i] } else { 0 }
-}
-
 fn walk(d: u64, from: &[u8], given: &[u8]) -> Walk {
     let mut order = [0u8; 8];
     let mut signs = [0i8; 8];
     let mut i: usize = 0;
     while i < 8 {
-        order[i] = at(from, i);
-        signs[i] = sign(at(given, i));
+        order[i] = byte(from, i);
+        signs[i] = sign(byte(given, i));
         i += 1;
     }
     Walk { d, order, signs }

@@ -1,12 +1,3 @@
--- Laws of decode.
-pub mod Words
-pub mod Pushing
-pub mod Partly
-pub mod Lowering
-pub mod Above
-pub mod Raising
-pub mod Answering
-pub mod Decoded
-pub mod Judged
+-- What follows from decode's promise.
 pub mod Unique
 pub mod Promised

@@ -1,3 +1,2 @@
--- `Promise` is what decode promises. `Inner` holds what only inner contracts need: no promise rests on it.
+-- What decode promises.
 pub mod Promise
-pub mod Inner

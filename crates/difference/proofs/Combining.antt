@@ -10,7 +10,7 @@ use lib.IntN.{ℤ, pos}
 use lib.ListN.{length, getD, drop, drop-of-length-le}
 use lib.Seq.{drop-cons}
 use Rattle.ladder.specs.Registers.{modulus, timesSigned, signedSum, differenceAdd}
-use Rattle.run.proofs.ByModulus.{below-modulus, element-kept}
+use Rattle.registers.proofs.ByModulus.{below-modulus, element-kept}
 
 -- After j elements: the sum so far and the combination of those that are left make the new register.
 pub record Combining (m : ℕ) (elements : List ℕ) (v : List ℤ) (x sum j : ℕ) : Type 0 where

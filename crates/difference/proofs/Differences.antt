@@ -9,14 +9,14 @@ use native.Mathlib.Omega.{arith}
 use lib.IntN.{ℤ, pos}
 use lib.ListN.{length, getD, take, replicate, length-replicate, getD-replicate}
 use Rattle.ladder.specs.Lists.{ones}
-use Rattle.ladder.specs.Matrix.{Row, Matrix, row, additions}
-use Rattle.ladder.specs.Trace.{Entry, difference, operations, entryOf, block}
+use Rattle.ladder.specs.Matrix.{Matrix, additions}
+use Rattle.ladder.specs.Trace.{Entry, vectorOf, operations, entryOf, block}
 use Rattle.ladder.specs.Registers.{stepRegisters, modulus, timesSigned, signedSum, differenceAdd, differenceRule}
 use Rattle.ladder.proofs.Lists.{map-map}
-use Rattle.ladder.proofs.Vectors.{length-difference, difference-at, sub-le}
+use Rattle.ladder.proofs.Vectors.{length-vector, vector-doubling}
 use Rattle.ladder.proofs.Writes.{take-replicate}
 use Rattle.difference.specs.Inner.{differenceOf}
-use Rattle.run.proofs.ByModulus.{modulus-positive, below-modulus}
+use Rattle.registers.proofs.ByModulus.{modulus-positive, below-modulus}
 
 -- ---- doublings
 
@@ -38,12 +38,11 @@ doubled-zeros m es a d n h =
     ap (differenceAdd m es a) (take-replicate d n (pos 0) h)
     ∙ add-zeros m es a (replicate d (pos 0)) (λ j l. getD-replicate d j (pos 0) (pos 0) (omega (arith, length-replicate d (pos 0))))
 
-doubled-row : (m : ℕ) (es : List ℕ) (a d : ℕ) (u : Row) → differenceAdd m es a (difference d u u) ≡ (a + a) % modulus m
-doubled-row m es a d u =
-    add-zeros m es a (difference d u u)
-    (λ j l.
-    difference-at d u u j (omega (arith, length-difference d u u))
-    ∙ sub-le (getD u j 0) (getD u j 0) (omega arith) ∙ ap pos (omega arith))
+doubled-row : (m : ℕ) (es : List ℕ) (a d : ℕ) (B : Matrix) (i : ℕ)
+    → differenceAdd m es a (vectorOf d B (record { x = i; y = i })) ≡ (a + a) % modulus m
+doubled-row m es a d B i =
+    add-zeros m es a (vectorOf d B (record { x = i; y = i }))
+    (λ j l. vector-doubling d B i j (omega (arith, length-vector d B (record { x = i; y = i }))))
 
 -- ---- the registers of a step
 
@@ -52,7 +51,7 @@ pub block-registers : (m : ℕ) (es : List ℕ) (d : ℕ) (B : Matrix) (regs r :
     → map (differenceOf m es regs) (block d B r) ≡ stepRegisters (differenceRule m es) d B regs r
 unfolding differenceOf block operations entryOf stepRegisters differenceRule
 block-registers m es d B regs r =
-    ap₂ (λ a rest. a ∷ rest) (doubled-row m es (getD regs (ones r) 0) d (row B (ones r)))
+    ap₂ (λ a rest. a ∷ rest) (doubled-row m es (getD regs (ones r) 0) d B (ones r))
     (map-map (differenceOf m es regs) (entryOf d B) (additions r))
 
 -- Each is an element.

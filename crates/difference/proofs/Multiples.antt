@@ -11,7 +11,7 @@ use lib.IntN.{ℤ, pos, negsuc}
 use lib.Signed.{ltZ}
 use Rattle.ladder.specs.Matrix.{IsSmall}
 use Rattle.ladder.specs.Registers.{modulus, timesSigned}
-use Rattle.run.proofs.ByModulus.{modulus-zero, modulus-some, element-kept}
+use Rattle.registers.proofs.ByModulus.{modulus-zero, modulus-some, element-kept}
 
 -- ---- negatives
 

@@ -15,12 +15,12 @@ use Rattle.ladder.specs.Matrix.{IsSmall, Units}
 use Rattle.ladder.specs.Registers.{modulus, differenceAdd}
 use Rattle.ladder.specs.Trace.{Entry}
 use Rattle.ladder.specs.Walk.{bitsOf}
-use Rattle.walk.specs.Inner.Ready.{Columns}
-use Rattle.walk.specs.Inner.WalkBlock.{walkBlock}
-use Rattle.walk.proofs.Additions.{entryAt, rest, more, rest-next, rest-none, block-rest}
-use Rattle.walk.proofs.StepBits.{ones-left, ones-room}
-use Rattle.walk.proofs.Turning.{column-at}
-use Rattle.run.specs.Inner.{Elements}
+use Rattle.bits.specs.Ready.{Columns}
+use Rattle.bits.specs.WalkBlock.{walkBlock}
+use Rattle.bits.proofs.Additions.{entryAt, rest, more, rest-next, rest-none, block-rest}
+use Rattle.bits.proofs.StepBits.{ones-left, ones-room}
+use Rattle.bits.proofs.Turning.{column-at}
+use Rattle.registers.specs.Inner.{Elements}
 use Rattle.difference.specs.Inner.{DifferenceAdd, differenceOf}
 use Rattle.difference.proofs.Differences.{doubled-zeros}
 

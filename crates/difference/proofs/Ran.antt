@@ -11,27 +11,24 @@ use Rattle.ladder.specs.Registers.{startRegisters, differenceRule, registersAft
 use Rattle.ladder.specs.Walk.{Walk, walkOf, orderOf}
 use Rattle.ladder.proofs.Operations.{RunOk}
 use Rattle.ladder.proofs.Walk.{order-of-walk}
-use Rattle.walk.specs.Inner.Ready.{started}
-use Rattle.walk.proofs.PlanWalk.{ready-start}
-use Rattle.walk.proofs.Starting.{started-is}
-use Rattle.run.proofs.Ran.{elements-of, first-is, first-below}
+use Rattle.bits.proofs.PlanWalk.{ready-start}
+use Rattle.judge.proofs.Starting.{startOf}
+use Rattle.registers.proofs.Ran.{elements-of, first-is, first-below}
 use Rattle.difference.specs.Inner.{DifferenceSteps}
 
 module _ {p : Plan} {m : ℕ} {elements registers : List ℕ} (ok : RunOk p m elements registers)
     (words : (i : ℕ) → getD elements i 0 < 2 ^ 64) where
   -- The walk's start holds the start order.
-  begins : started (p .d) (p .start) ≡ walkOf (p .d) (startOrder p) (startSigns (p .d))
-  begins = started-is (p .d) (p .start) (startOrder p) (ok .plan .plan .columns)
-
-  holds : orderOf (walkOf (p .d) (startOrder p) (startSigns (p .d))) ≡ startOrder p
+  holds : orderOf (startOf p) ≡ startOrder p
+  unfolding startOrder
   holds = order-of-walk (p .d) (startOrder p) (startSigns (p .d)) (ok .plan .plan .start .long)
 
   module _ (first : List ℕ) (begun : take (suc (length (p .start))) first ≡ startRegisters m elements (map pred (p .start))) where
     -- The steps can be made from the walk's start ..
-    pub difference-steps-ask : (w : Walk) → w ≡ started (p .d) (p .start) → DifferenceSteps m w (p .l) (p .bits) elements first
-    unfolding walkOf elementsLength
+    pub difference-steps-ask : (w : Walk) → w ≡ startOf p → DifferenceSteps m w (p .l) (p .bits) elements first
+    unfolding walkOf elementsLength startOrder
     difference-steps-ask w e =
-        subst (λ v. DifferenceSteps m v (p .l) (p .bits) elements first) (sym (e ∙ begins)) (record {
+        subst (λ v. DifferenceSteps m v (p .l) (p .bits) elements first) (sym e) (record {
           ready = ready-start p (ok .plan .plan);
           begun = ap (λ S. walkOf (p .d) S (startSigns (p .d))) (sym holds);
           lHigh = ok .plan .plan .lHigh;
@@ -43,12 +40,12 @@ module _ {p : Plan} {m : ℕ} {elements registers : List ℕ} (ok : RunOk p m el
         })
 
     -- .. and end in the registers that its own rule defines.
-    pub difference-ran : (w : Walk) → w ≡ started (p .d) (p .start) → (regs : List ℕ)
+    pub difference-ran : (w : Walk) → w ≡ startOf p → (regs : List ℕ)
         → take (suc (w .d)) regs ≡ registersAfter (differenceRule m elements) (w .d) (orderOf w) (bitsAt (w .d) (p .bits)) (take (suc (w .d)) first) (p .l)
         → take (suc (p .d)) regs ≡ differenceRegisters p m elements (p .l)
-    unfolding differenceRegisters walkOf
+    unfolding differenceRegisters walkOf startOrder
     difference-ran w e regs ran =
         subst
         (λ v. take (suc (v .d)) regs ≡ registersAfter (differenceRule m elements) (v .d) (orderOf v) (bitsAt (v .d) (p .bits)) (take (suc (v .d)) first) (p .l))
-        (e ∙ begins) ran
+        e ran
         ∙ ap₂ (λ S s. registersAfter (differenceRule m elements) (p .d) S (bitsAt (p .d) (p .bits)) s (p .l)) holds (first-is ok words first begun)

@@ -13,14 +13,14 @@ use Rattle.ladder.specs.Numbers.{bitsAt}
 use Rattle.ladder.specs.Registers.{stepRegisters, differenceRule, registersAfter}
 use Rattle.ladder.specs.Trace.{Entry, block}
 use Rattle.ladder.specs.Walk.{Walk, bitsOf, walkOf, orderOf, walkSigns, stepWalk}
-use Rattle.ladder.proofs.Ladder.{signs-after, stairs-after}
+use Rattle.ladder.proofs.Ladder.{signs-after, state-after}
 use Rattle.ladder.proofs.Walk.{order-of-walk, signs-of-walk, length-orderAfter, length-signsAfter}
-use Rattle.walk.specs.Inner.Ready.{Ready}
-use Rattle.walk.specs.Inner.ReadBits.{ReadBits}
-use Rattle.walk.specs.Inner.WalkBlock.{walkBlock}
-use Rattle.walk.proofs.Stepping.{ready-step, walk-on}
-use Rattle.walk.proofs.WalkBlock.{walk-block}
-use Rattle.run.specs.Inner.{Elements}
+use Rattle.bits.specs.Ready.{Ready}
+use Rattle.bits.specs.ReadBits.{ReadBits}
+use Rattle.bits.specs.WalkBlock.{walkBlock}
+use Rattle.bits.proofs.Stepping.{ready-step, walk-on}
+use Rattle.bits.proofs.WalkBlock.{walk-block}
+use Rattle.registers.specs.Inner.{Elements}
 use Rattle.difference.specs.Inner.{DifferenceStep, DifferenceSteps, differenceOf}
 use Rattle.difference.proofs.Differences.{block-registers, registers-below}
 
@@ -105,7 +105,7 @@ module _ {m : ℕ} {w₀ : Walk} {l : ℕ} {bytes elements start : List ℕ} (as
             (length-orderAfter d S r (arranged .long) (length-bitsAt d bytes) (suc s)) in
             ap₂ (λ σ T. walkBlock d σ T (bitsOf d n)) before after
             ∙ ap (walkBlock d (signsOf d (matrixAfter d S r s)) (orderAfter S r (suc s))) (b .bits)
-            ∙ walk-block (stairs-after arranged r (length-bitsAt d bytes) s) (r s) (length-bitsAt d bytes s)
+            ∙ walk-block (state-after arranged r (length-bitsAt d bytes) s) (r s) (length-bitsAt d bytes s)
 
         -- One step more, with its registers.
         running-more : s < l → (new : List ℕ) → length new ≡ 9

@@ -10,8 +10,8 @@ use Rattle.ladder.specs.Lists.{ones}
 use Rattle.ladder.specs.Registers.{modulus, differenceAdd}
 use Rattle.ladder.specs.Walk.{Walk, bitsOf, stepWalk}
 use Rattle.ladder.proofs.Signs.{turned}
-use Rattle.walk.specs.Inner.WalkBlock.{walkBlock}
-use Rattle.walk.proofs.Moving.{newOrder, comes, Moving, new-columns, moving-start, moving-taken, moving-vector, moving-next, moving-end}
+use Rattle.bits.specs.WalkBlock.{walkBlock}
+use Rattle.bits.proofs.Moving.{newOrder, comes, Moving, new-columns, moving-start, moving-taken, moving-vector, moving-next, moving-end}
 use Rattle.difference.specs.Inner.{DifferenceAdd, DifferenceStep, differenceOf}
 use Rattle.difference.proofs.NewRegisters.{Additions, Making, doubled-room, making-start, making-room, addition-asks, making-next, making-end}
 

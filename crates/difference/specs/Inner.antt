@@ -10,8 +10,8 @@ use Rattle.ladder.specs.Numbers.{bitsLength}
 use Rattle.ladder.specs.Registers.{modulus, differenceAdd}
 use Rattle.ladder.specs.Trace.{Entry}
 use Rattle.ladder.specs.Walk.{Walk, walkOf, orderOf}
-use Rattle.walk.specs.Inner.Ready.{Ready}
-use Rattle.run.specs.Inner.{Elements}
+use Rattle.bits.specs.Ready.{Ready}
+use Rattle.registers.specs.Inner.{Elements}
 
 -- What an addition asks: a register and elements that are elements, and a vector of -1, 0 and 1.
 pub record DifferenceAdd (x : ℕ) (vector : List ℤ) (elements : List ℕ) (m : ℕ) : Type 0 where

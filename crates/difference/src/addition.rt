@@ -1,5 +1,5 @@
 // The addition of the difference run: register x and the elements' combination by a vector of -1, 0 and 1.
-use run::modular::add;
+use registers::add;
 ghost use mathlib.Core.Path.{_≡_};
 ghost use Prim.Native.Nat.{_-_, _%_, _<_};
 ghost use Rattle.ladder.specs.Matrix.{IsSmall};

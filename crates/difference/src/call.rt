@@ -1,13 +1,9 @@
 // The public call `difference_run`.
-use crate::steps::difference_steps;
+use crate::accepted::difference_accepted;
 use refuse::OK;
-use run::answer::Ran;
-use run::answer::finish;
-use run::answer::refused;
-use run::refusal::run_refusal;
-use run::start::start_registers;
-use run::store::store;
-use walk::start::start_walk;
+use registers::refused;
+use registers::run_refusal;
+use run::Ran;
 ghost use Rattle.ladder.specs.Plan.{planLent};
 ghost use Rattle.run.specs.Promise.{DifferencePromise};
 
@@ -28,10 +24,5 @@ pub fn difference_run(
     if refusal != OK {
         return refused(refusal);
     }
-    let first = start_registers(m, start, elements);
-    let w = start_walk(d, start);
-    let regs = difference_steps(m, w, l as usize, bits, elements, first);
-    let n = d as usize + 1;
-    store(&regs[..n], registers);
-    finish(registers, d, l, row)
+    difference_accepted(d, l, start, bits, row, m, elements, registers)
 }

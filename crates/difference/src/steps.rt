@@ -1,10 +1,10 @@
 // The difference run: each new register is made from one old one and a difference vector.
 use crate::addition::difference_add;
-use run::modular::add;
-use walk::bits::step_bits;
-use walk::number::bit;
-use walk::number::ones_in;
-use walk::state::Walk;
+use bits::bit;
+use bits::ones_in;
+use bits::step_bits;
+use registers::add;
+use walk::Walk;
 ghost use mathlib.Core.Path.{_≡_};
 ghost use mathlib.Core.List.{map};
 ghost use Prim.Native.Nat.{suc, pred};
@@ -12,7 +12,7 @@ ghost use lib.ListN.{take};
 ghost use Rattle.ladder.specs.Numbers.{bitsAt};
 ghost use Rattle.ladder.specs.Registers.{differenceRule, registersAfter};
 ghost use Rattle.ladder.specs.Walk.{bitsOf, orderOf, stepWalk};
-ghost use Rattle.walk.specs.Inner.WalkBlock.{walkBlock};
+ghost use Rattle.bits.specs.WalkBlock.{walkBlock};
 ghost use Rattle.walk.specs.WalkState.{walkState};
 ghost use Rattle.difference.specs.Inner.{DifferenceStep, DifferenceSteps, differenceOf};
 

@@ -84,7 +84,7 @@ module _ {d l : ℕ} {words E : List ℕ} (fit : Fitting d l words) (a : Arrange
   module _ {m : ℕ} {bytes order : List ℕ} {p : Packing} {below : ℕ} (b : Behind d l ks E m bytes order p below) where
     -- The order's places hold columns.
     pub columns : ColumnsIn d order
-    columns = arranged-columns d order _ (fit .shaped .dHigh) (b .arranged) (order-to-go l ks a m)
+    columns = arranged-columns d order _ (fit .shaped .range .dHigh) (b .arranged) (order-to-go l ks a m)
 
     -- The order of all steps is the start order, and all bits are packed.
     pub all-behind-order : l ≤ m → take d order ≡ encodedStart l ks E
@@ -117,7 +117,7 @@ module _ {d l : ℕ} {words E : List ℕ} (fit : Fitting d l words) (a : Arrange
       pub room : (r : ℕ) → r < 2 ^ d → Room p d r bytes
       room r small = record {
         state = b .state;
-        dHigh = fit .shaped .dHigh;
+        dHigh = fit .shaped .range .dHigh;
         fits = small;
         room = omega (arith, b .left, bits-left);
       }

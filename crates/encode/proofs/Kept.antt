@@ -1,13 +1,12 @@
--- The promise is kept on refusal and on accepted input. Rests on what an input that is not refused is (`encode-none`).
+-- The promise is kept on refusal and on accepted input, whose scalars are what the core reads.
 -- Assumes nothing.
 use Prim.Native.Nat.{ℕ, suc, _+_, _≤_}
 use mathlib.Core.Path.{_≡_, sym, ap, _∙_}
 use mathlib.Core.List.{List, map}
 use native.Mathlib.Numerals.{add-one}
 use native.Mathlib.Omega.{arith}
-use lib.ListN.{length}
 use Rattle.ladder.specs.Lists.{joined, odds}
-use Rattle.ladder.specs.Numbers.{scalarWords, numbersOf, scalarsLength, startLength, bitsLength, packBits}
+use Rattle.ladder.specs.Numbers.{scalarWords, numbersOf, scalarsLength, packBits}
 use Rattle.ladder.specs.Matrix.{Arrangement}
 use Rattle.ladder.specs.Encoding.{encodedStart, encodedBits, encodeWith, houseOrder, encode}
 use Rattle.ladder.specs.Refusals.{scalarsIn, encodeRefusal}
@@ -15,37 +14,27 @@ use Rattle.ladder.proofs.Lists.{odds-le}
 use Rattle.ladder.proofs.Tests.{refusing-yes, refusing-no}
 use Rattle.ladder.proofs.Numbers.{length-numbersOf}
 use Rattle.ladder.proofs.HouseOrder.{house-arrangement}
-use Rattle.ladder.proofs.Operations.{encode-none}
+use Rattle.ladder.proofs.Operations.{EncodeOk}
 use Rattle.scalars.specs.Inner.{Fitting}
 use Rattle.encode.specs.Promise.{EncodePromise}
 
--- What the core asks of an input.
-pub record Encodable (d l : ℕ) (scalars start bits : List ℕ) : Type 0 where
-  pub fitting : Fitting d l scalars
-  pub startLong : length start ≡ d
-  pub bitsLong : length bits ≡ bitsLength d l
+-- The scalars that are accepted are what the core reads.
+pub fitting : {d l : ℕ} {scalars start bits : List ℕ} → EncodeOk d l scalars start bits → Fitting d l scalars
+unfolding scalarsLength scalarsIn
+fitting ok = record {
+  shaped = record {
+    range = record {
+      dLow = ok .dimension .0;
+      dHigh = ok .dimension .1;
+      lLow = ok .steps .0;
+      lHigh = ok .steps .1;
+    };
+    long = ok .scalarsLong;
+  };
+  below = ok .fit;
+}
 
 module _ (d l : ℕ) (scalars start bits : List ℕ) (n : ℕ) (judged : n ≡ encodeRefusal d l scalars start bits) where
-  -- An input that is not refused has it.
-  pub encodable : n ≡ 0 → Encodable d l scalars start bits
-  unfolding scalarsLength startLength scalarsIn
-  encodable none =
-      let ok = encode-none d l scalars start bits .0 (sym judged ∙ none) in
-      record {
-        fitting = record {
-          shaped = record {
-            dLow = ok .dimension .0;
-            dHigh = ok .dimension .1;
-            lLow = ok .steps .0;
-            lHigh = ok .steps .1;
-            long = ok .scalarsLong;
-          };
-          below = ok .fit;
-        };
-        startLong = ok .startLong;
-        bitsLong = ok .bitsLong;
-      }
-
   -- On refusal: row 0, and both outputs as they came.
   pub kept-refused : (n ≡ 0 → ⊥) → EncodePromise d l scalars start bits (record { refusal = n; row = 0 }) start bits
   kept-refused ne = record {
@@ -74,7 +63,7 @@ pub house-arranged : (d l : ℕ) (scalars E : List ℕ) → E ≡ houseOrder d (
 house-arranged d l scalars E e = rw e (house-arrangement d _ (length-numbersOf d (scalarWords l) scalars))
 
 -- Of d scalars at most d are odd.
-pub few-odd : {d l : ℕ} {scalars start bits : List ℕ} → Encodable d l scalars start bits → (odd : ℕ) → odd ≡ odds (numbersOf d (scalarWords l) scalars)
+pub few-odd : {d l : ℕ} {scalars start bits : List ℕ} → EncodeOk d l scalars start bits → (odd : ℕ) → odd ≡ odds (numbersOf d (scalarWords l) scalars)
     → odd ≤ 8
 few-odd {d} {l} {scalars} ok odd e =
-    omega (arith, odds-le (numbersOf d (scalarWords l) scalars), length-numbersOf d (scalarWords l) scalars, ok .fitting .shaped .dHigh)
+    omega (arith, odds-le (numbersOf d (scalarWords l) scalars), length-numbersOf d (scalarWords l) scalars, ok .dimension .1)

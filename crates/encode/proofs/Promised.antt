@@ -1,24 +1,26 @@
--- What follows from encode's promise alone, for crates above, after two laws of the scalars that it speaks of. Rests on the theorems about encoding (Demand2, Lengths), on what an input
--- that is not refused is (`encode-none`), and on the promise fixing its answers (`encode-unique`).
+-- What follows from encode's promise alone, for crates above, after two laws of the scalars that it speaks of. Rests on the theorems about
+-- encoding (Demand2, Lengths), on what an input that is not refused is (`encode-none`), and on the promise fixing its answers
+-- (`encode-unique`).
 -- Assumes nothing.
 use Prim.Native.Nat.{ℕ, _*_, _^_, _<_}
 use mathlib.Core.Path.{_≡_, refl, sym, ap, subst, _∙_}
-use mathlib.Core.Logic.{_≢_, _↔_}
+use mathlib.Core.Logic.{_≢_, _↔_, Iff·rfl}
 use mathlib.Core.List.{List, [], _∷_}
 use native.Mathlib.Omega.{arith}
 use lib.ListN.{length, getD}
-use Rattle.ladder.specs.Lists.{tabulate, joined, odds, all}
-use Rattle.ladder.specs.Numbers.{numberOf, numbersOf, byteOf, bytesFor, packBits, scalarWords, scalarsLength, startLength, bitsLength}
-use Rattle.ladder.specs.Plan.{Plan, answerRow}
-use Rattle.ladder.specs.Encoding.{scalarBit, xor, dealt, deal, picked, passed, rearrange, orderToGo, encodedStart, encodedBits, encodeWith, houseOrder, encode}
-use Rattle.ladder.specs.Refusals.{_then_, unless, refusing, within, dim, len, shape, scalar, planRefusal, planShape, scalarsIn, encodeRefusal}
-use Rattle.ladder.proofs.Tests.{then-none, refusing-no, refusing-yes}
+use Rattle.ladder.specs.Lists.{tabulate, all}
+use Rattle.ladder.specs.Numbers.{numberOf, numbersOf, bytesFor, scalarWords, scalarsLength, startLength, bitsLength}
+use Rattle.ladder.specs.Plan.{Plan, planLent, answerRow}
+use Rattle.ladder.specs.Encoding.{encodeWith, encode}
+use Rattle.ladder.specs.Refusals.{_then_, unless, refusing, within, dim, len, shape, scalar, looseRefusal, scalarsIn, encodeRefusal}
+use Rattle.ladder.proofs.Tests.{refusing-no, refusing-yes}
 use Rattle.ladder.proofs.Numbers.{length-numbersOf, numbersOf-below}
 use Rattle.ladder.proofs.HouseOrder.{house-arrangement}
-use Rattle.ladder.proofs.Refusals.{Accepted, accepted, accepted-shapes, shape-none}
-use Rattle.ladder.proofs.Operations.{EncodeOk, PlanOk, encode-none}
+use Rattle.ladder.proofs.Refusals.{Accepted}
+use Rattle.ladder.proofs.Operations.{EncodeOk, PlanOk, loose-none, encode-none}
 use Rattle.ladder.proofs.Demand2.{decode-encode}
 use Rattle.ladder.proofs.Lengths.{encoded-not-refused}
+use Rattle.ladder.proofs.WorkedCases.{case-holds}
 use Rattle.encode.specs.declared.call.Encoded.{Encoded}
 use Rattle.encode.specs.Promise.{EncodePromise}
 use Rattle.encode.proofs.Unique.{encode-unique}
@@ -38,12 +40,12 @@ scalars-below d l scalars = numbersOf-below d (scalarWords l) scalars
 
 -- ---- refused or not
 
--- What a call answered and left, as a plan.
-abbrev pub written : ℕ → ℕ → Encoded → List ℕ → List ℕ → Plan
-written d l r start bits = record { d = d; l = l; start = start; bits = bits; answer = r .row }
-
 module _ {d l : ℕ} {scalars start bits : List ℕ} {r : Encoded} {startAfter bitsAfter : List ℕ}
     (promise : EncodePromise d l scalars start bits r startAfter bitsAfter) where
+  -- What the call left, with the row that it answered.
+  abbrev plan : Plan
+  plan = planLent d l startAfter bitsAfter (r .row)
+
   -- The refusal is 0 exactly where the input is what encode asks.
   pub encode-accepts : r .refusal ≡ 0 ↔ EncodeOk d l scalars start bits
   encode-accepts = subst (λ n. n ≡ 0 ↔ EncodeOk d l scalars start bits) (sym (promise .refusal-is)) (encode-none d l scalars start bits)
@@ -62,7 +64,7 @@ module _ {d l : ℕ} {scalars start bits : List ℕ} {r : Encoded} {startAfter b
     encode-accepted = encode-accepts .1 ok
 
     -- .. and what is written is the plan of the scalars.
-    pub encode-writes : written d l r startAfter bitsAfter ≡ encode d l (scalarsIn d l scalars)
+    pub encode-writes : plan ≡ encode d l (scalarsIn d l scalars)
     unfolding encode encodeWith
     encode-writes =
         let row = promise .row-is ∙ refusing-no _ 0 (encode d l (scalarsIn d l scalars) .answer) encode-accepted in
@@ -71,7 +73,7 @@ module _ {d l : ℕ} {scalars start bits : List ℕ} {r : Encoded} {startAfter b
         rw (row, order, bytes)
 
     -- As a plan it is not refused ..
-    pub encode-not-refused : planRefusal (written d l r startAfter bitsAfter) (planShape (written d l r startAfter bitsAfter)) ≡ 0
+    pub encode-not-refused : looseRefusal plan 0 ≡ 0
     unfolding encode
     encode-not-refused =
         let wide = scalars-length d l scalars in
@@ -79,40 +81,43 @@ module _ {d l : ℕ} {scalars start bits : List ℕ} {r : Encoded} {startAfter b
         (encoded-not-refused l (scalarsIn d l scalars) (house-arrangement d (scalarsIn d l scalars) wide) wide
         (ok .dimension .0) (ok .dimension .1) (ok .steps .0) (ok .steps .1))
 
-    pub encode-plan : Accepted (written d l r startAfter bitsAfter)
-    encode-plan = accepted _ _ encode-not-refused
-
     -- .. its buffers have their lengths ..
-    pub encode-plan-ok : PlanOk (written d l r startAfter bitsAfter)
-    unfolding planShape
-    encode-plan-ok =
-        let p = written d l r startAfter bitsAfter in
-        let each =
-        then-none (shape startAfter (startLength d)) (shape bitsAfter (bitsLength d l)) (accepted-shapes p (planShape p) encode-not-refused) in
-        record {
-          plan = encode-plan;
-          start = shape-none startAfter (startLength d) .0 (each .0);
-          bits = shape-none bitsAfter (bitsLength d l) .0 (each .1);
-        }
+    pub encode-plan-ok : PlanOk plan
+    encode-plan-ok = loose-none _ Iff·rfl .0 encode-not-refused .0
+
+    pub encode-plan : Accepted plan
+    encode-plan = encode-plan-ok .plan
 
     -- .. and its answer row is the scalars.
-    pub encode-decodes : answerRow (written d l r startAfter bitsAfter) ≡ scalarsIn d l scalars
+    pub encode-decodes : answerRow plan ≡ scalarsIn d l scalars
     encode-decodes = rw encode-writes (decode-encode d l (scalarsIn d l scalars) (scalars-length d l scalars) (ok .fit))
 
 -- ---- nothing is constant
 
--- d 1, l 1: 0 gives 00 and row 1, 1 gives 80 and row 2. d 2, l 2: 2, 1 give start order 1 2, and 3, 3 give 2 1.
+-- The promise is met by the plan of the scalars, where nothing is refused.
+met : (d l : ℕ) (scalars start bits : List ℕ) {places bytes : List ℕ} {row : ℕ} → encodeRefusal d l scalars start bits ≡ 0
+    → encode d l (scalarsIn d l scalars) ≡ planLent d l places bytes row
+    → EncodePromise d l scalars start bits (record { refusal = 0; row = row }) places bytes
+unfolding refusing
+met d l scalars start bits none e = record {
+  refusal-is = sym none;
+  row-is = ap (λ p. p .answer) (sym e);
+  start-is = ap (λ p. p .start) (sym e);
+  bits-are = ap (λ p. p .bits) (sym e);
+}
+
+-- Four of the worked cases. d 1, l 1: 0 gives 00 and row 1, 1 gives 80 and row 2. d 2, l 2: 2, 1 give start order 1 2, and 3, 3 give 2 1.
 given :
     EncodePromise 1 1 (0 ∷ []) (0 ∷ []) (0 ∷ []) (record { refusal = 0; row = 1 }) (1 ∷ []) (0x00 ∷ [])
     × EncodePromise 1 1 (1 ∷ []) (0 ∷ []) (0 ∷ []) (record { refusal = 0; row = 2 }) (1 ∷ []) (0x80 ∷ [])
     × EncodePromise 2 2 (2 ∷ 1 ∷ []) (0 ∷ 0 ∷ []) (0 ∷ []) (record { refusal = 0; row = 2 }) (1 ∷ 2 ∷ []) (0xb0 ∷ [])
     × EncodePromise 2 2 (3 ∷ 3 ∷ []) (0 ∷ 0 ∷ []) (0 ∷ []) (record { refusal = 0; row = 3 }) (2 ∷ 1 ∷ []) (0xc0 ∷ [])
-unfolding tabulate joined odds all numberOf numbersOf byteOf bytesFor packBits scalarWords scalarsLength startLength bitsLength scalarBit xor dealt deal picked passed rearrange orderToGo encodedStart encodedBits encodeWith houseOrder encode _then_ unless refusing within dim len shape scalar scalarsIn encodeRefusal
+unfolding tabulate all numberOf numbersOf bytesFor scalarWords scalarsLength startLength bitsLength _then_ unless within dim len shape scalar scalarsIn encodeRefusal
 given = (
-  record { refusal-is = refl; row-is = refl; start-is = refl; bits-are = refl },
-  record { refusal-is = refl; row-is = refl; start-is = refl; bits-are = refl },
-  record { refusal-is = refl; row-is = refl; start-is = refl; bits-are = refl },
-  record { refusal-is = refl; row-is = refl; start-is = refl; bits-are = refl },
+  met _ _ _ _ _ refl (case-holds 1 .0),
+  met _ _ _ _ _ refl (case-holds 2 .0),
+  met _ _ _ _ _ refl (case-holds 4 .0),
+  met _ _ _ _ _ refl (case-holds 9 .0),
 )
 
 -- No one start order meets the promise for 2, 1 and for 3, 3 ..

@@ -2,6 +2,10 @@
 use crate::order::house_order;
 use crate::steps::encode_with;
 use refuse::OK;
+use refuse::bits_length;
+use refuse::first;
+use refuse::scalars_length;
+use refuse::shape;
 use scalars::odd_count;
 use scalars::scalar_refusal;
 ghost use mathlib.Core.Path.{_≡_};
@@ -14,19 +18,21 @@ pub struct Encoded {
     pub row: u64,
 }
 
-// The first refusal that applies, of 1, 2, 3, 4. The scalars are looked at only where the rest is right.
+// The first refusal that applies, of 1, 2, 3, 4. Buffers are measured only where d and l are in range, and the scalars are looked at only
+// where every buffer has its length.
 fn encode_refusal(d: u64, l: u64, scalars: &[u64], start: &[u8], bits: &[u8]) -> u64
     ensures { λ r. ⌜ r ≡ encodeRefusal d l (now (scalars .entry)) (now (start .entry)) (now (bits .entry)) ⌝ }
 {
-    let dimension = refuse::dim(d);
-    let length = refuse::len(l);
-    let words = refuse::shape(scalars.len(), refuse::scalars_length(d, l));
-    let places = refuse::shape(start.len(), d);
-    let bytes = refuse::shape(bits.len(), refuse::bits_length(d, l));
-    let shapes = refuse::first(words, refuse::first(places, bytes));
-    let early = refuse::first(dimension, refuse::first(length, shapes));
-    if early != OK {
-        return early;
+    let range = refuse::range(d, l);
+    if range != OK {
+        return range;
+    }
+    let words = shape(scalars.len(), scalars_length(d, l));
+    let places = shape(start.len(), d);
+    let bytes = shape(bits.len(), bits_length(d, l));
+    let shapes = first(words, first(places, bytes));
+    if shapes != OK {
+        return shapes;
     }
     scalar_refusal(d as usize, l as usize, scalars)
 }

@@ -1,7 +1,8 @@
--- Decoding by a walk: orders and signs alone give the answer row. The signs after each step are the binary digits, top first, of
--- the lower of a column's two numbers, and the place in the last order says which of the two stands in the row.
+-- Inner: what decoding without a matrix rests on. Orders and signs alone give the answer row: the signs after each step are the
+-- binary digits, top first, of the lower of a column's two numbers, and the place in the last order says which of the two stands in
+-- the row.
 -- Assumes nothing.
-use Prim.Native.Nat.{ℕ, zero, suc, _+_, _*_, _%_, _≤_, _<_}
+use Prim.Native.Nat.{ℕ, zero, suc, pred, _+_, _*_, _%_, _≤_, _<_}
 use mathlib.Core.Path.{_≡_, sym, ap, subst, _∙_}
 use mathlib.Core.Logic.{⊎-elim}
 use mathlib.Core.List.{List}
@@ -10,10 +11,13 @@ use lib.IntN.{pos}
 use lib.ListN.{length, getD, take}
 use Rattle.ladder.specs.Lists.{count}
 use Rattle.ladder.specs.Matrix.{entry, Arrangement, matrixAfter, orderAfter, signsAfter}
+use Rattle.ladder.specs.Plan.{Plan, startOrder, stepBits, matrixIn, orderIn, lastMatrix, endOrder, answerRow}
 use Rattle.ladder.specs.Inner.Decoding.{digit, walked, walkedEntry}
+use Rattle.ladder.proofs.Bits.{length-stepBits, stepBits-below}
 use Rattle.ladder.proofs.Order.{place-of}
 use Rattle.ladder.proofs.Signs.{getD-signsOf}
 use Rattle.ladder.proofs.Ladder.{lower, state-after, stairs-after, signs-after, lower-after, lower-after-zero, sign-by-lower, entry-by-order}
+use Rattle.ladder.proofs.Refusals.{Accepted}
 
 module _ {d : ℕ} {S : List ℕ} (a : Arrangement d S) (r : ℕ → List ℕ) (long : (s : ℕ) → length (r s) ≡ d)
     (small : (s k : ℕ) → getD (r s) k 0 < 2) where
@@ -47,3 +51,12 @@ module _ {d : ℕ} {S : List ℕ} (a : Arrangement d S) (r : ℕ → List ℕ) (
   entry-by-walk n i j h b =
       entry-by-order (stairs-after a r long n) j b i h
       ∙ ap (λ m. m + (m + count j (take i (orderAfter S r n))) % 2) (sym (walked-is-lower n j b))
+
+-- What the walk of an accepted plan yields is its answer row.
+pub answer-by-walk : (p : Plan) → Accepted p → (j : ℕ) → j < p .d
+    → getD (answerRow p) j 0
+    ≡ walkedEntry (walked (p .d) (startOrder p) (stepBits p) (p .l) j) (pred (p .answer)) (endOrder p) j
+unfolding answerRow lastMatrix matrixIn endOrder orderIn
+answer-by-walk p ok j h =
+    entry-by-walk (ok .start) (stepBits p) (length-stepBits p) (stepBits-below p) (p .l) (pred (p .answer)) j
+    (omega (arith, ok .answerHigh)) h

@@ -1,30 +1,38 @@
--- Demand 2: from scalars comes a plan whose answer row is the scalars; the plan that a matrix sequence has is the encoding of what
--- it ends in, and no other; evaluating a plan gives the same combination as its answer row.
+-- Demand 2: from scalars comes a plan whose answer row is the scalars; a plan is the encoding of the scalars that its last matrix
+-- ends in, with its end order, and no other; evaluating a plan gives the same combination as its answer row.
 -- Assumes nothing.
-use Prim.Native.Nat.{ℕ, suc, pred, _+_, _-_, _*_, _%_, _^_, _≤_, _<_}
+use Prim.Native.Nat.{ℕ, suc, pred, min, _+_, _-_, _*_, _%_, _^_, _≤_, _<_}
 use mathlib.Core.Path.{_≡_, sym, ap, subst, _∙_}
 use mathlib.Core.List.{List, [], map}
 use native.Mathlib.Omega.{arith}
 use lib.ListN.{length, getD}
-use Rattle.ladder.specs.Lists.{odds}
+use lib.Seq.{ext-getD}
+use Rattle.ladder.specs.Lists.{tabulate, odds}
 use Rattle.ladder.specs.Numbers.{numbersOf, wordsOfAll, bitAt, packBits, bitsLength, valueWords, bitsAt}
 use Rattle.ladder.specs.Matrix.{row, entry, Arrangement, StateMatrix, matrixAfter, orderAfter}
 use Rattle.ladder.specs.Plan.{Plan, startOrder, stepBits, matrixIn, orderIn, lastMatrix, endOrder, answerRow, valuesIn}
 use Rattle.ladder.specs.Encoding.{encodedStart, encodedBits, encodeWith, encode}
 use Rattle.ladder.specs.Registers.{combination, modulus, plainRegisters, differenceRegisters, answerRegister}
-use Rattle.ladder.proofs.Lists.{getD-map, joined-same, odds-le}
+use Rattle.ladder.proofs.Lists.{length-tabulate, getD-tabulate, getD-map, joined-same, odds-le}
 use Rattle.ladder.proofs.Numbers.{numbersOf-wordsOfAll, value-fits}
 use Rattle.ladder.proofs.Bits.{step-of-packed, pack-bits-of, bits-in-order, length-stepBits, stepBits-below}
+use Rattle.ladder.proofs.Stairs.{stairs}
 use Rattle.ladder.proofs.Ladder.{matrix-same, order-same, state-after}
 use Rattle.ladder.proofs.HouseOrder.{house-arrangement, house-odd-first}
-use Rattle.ladder.proofs.OnePlan.{neighbours, start-back, bits-back}
+use Rattle.ladder.proofs.OnePlan.{first-by-lower, last-by-lower, scalar-fits, start-back, bits-back}
 use Rattle.ladder.proofs.Encoding.{start-arranged, length-encodedBits, encodedBits-below, encoded-first-row, encoded-last-row, encoded-end, OddFirst, encoded-answer}
-use Rattle.ladder.specs.Inner.Decoding.{walked, walkedEntry}
-use Rattle.ladder.proofs.Decoding.{entry-by-walk}
 use Rattle.ladder.proofs.Registers.{plain-registers}
 use Rattle.ladder.proofs.Walk.{pred-suc}
 use Rattle.ladder.proofs.Refusals.{Accepted}
 use Rattle.ladder.proofs.Demand3.{state-in, bound-in, runs-in}
+
+-- A plan ends in scalars where column j of its last matrix has scalar plus its lowest bit in row 0 (the rules' row 1), and scalar
+-- plus 1 minus its lowest bit in row d (the rules' row d+1). To decode to them with the house order at the end is not enough: with
+-- d 1, l 2, start order 1 and answer row 1 the bits C0 and 40 both decode to 2, but C0 ends in 2 and 40 in 1.
+pub record EndsIn (p : Plan) (ks : List ℕ) : Type 0 where
+  pub long : length ks ≡ p .d
+  pub first : (j : ℕ) → j < p .d → entry (lastMatrix p) 0 j ≡ getD ks j 0 + getD ks j 0 % 2
+  pub last : (j : ℕ) → j < p .d → entry (lastMatrix p) (p .d) j ≡ getD ks j 0 + (1 - getD ks j 0 % 2)
 
 -- ---- what is encoded
 
@@ -69,6 +77,11 @@ module _ {d : ℕ} (l : ℕ) (ks : List ℕ) {E : List ℕ} (a : Arrangement d E
       → entry (lastMatrix (encodeWith d l ks E)) d j ≡ getD ks j 0 + (1 - getD ks j 0 % 2)
   last-row-encoded fits j h = ap (λ B. entry B d j) encoded-last-matrix ∙ encoded-last-row l ks a fits j h
 
+  -- So it ends in the scalars.
+  pub encoded-ends-in : length ks ≡ d → ((j : ℕ) → j < d → getD ks j 0 < 2 ^ l) → EndsIn (encodeWith d l ks E) ks
+  unfolding encodeWith
+  encoded-ends-in wide fits = record { long = wide; first = first-row-encoded fits; last = last-row-encoded fits }
+
   -- With every odd scalar's column before every even one's, decoding gives the scalars.
   pub decode-encode-with : length ks ≡ d → ((j : ℕ) → j < d → getD ks j 0 < 2 ^ l) → OddFirst d ks E
       → answerRow (encodeWith d l ks E) ≡ ks
@@ -96,6 +109,63 @@ unfolding encode
 decode-encode d l ks wide fits =
     decode-encode-with l ks (house-arrangement d ks wide) wide fits (house-odd-first d ks wide)
 
+-- ---- the plan of scalars
+
+-- A plan ends in no two lists of scalars.
+pub ends-in-one : {p : Plan} {ks qs : List ℕ} → EndsIn p ks → EndsIn p qs → ks ≡ qs
+ends-in-one {p} {ks} {qs} e f =
+    ext-getD 0 ks qs (e .long ∙ sym (f .long))
+    (λ j h. let b : j < p .d = omega (arith, e .long) in omega (arith, e .first j b, e .last j b, f .first j b, f .last j b))
+
+module _ (p : Plan) (ok : Accepted p) where
+  -- Every accepted plan ends in some scalars ..
+  pub ends-in-some : (ks : List ℕ) × EndsIn p ks
+  unfolding lastMatrix
+  ends-in-some = (
+    tabulate (p .d) lowest,
+    record {
+      long = length-tabulate (p .d) lowest;
+      first = λ j h. rw (getD-tabulate (p .d) lowest j 0 h) (first-by-lower (stairs (state-in p ok (p .l))) j h);
+      last = λ j h. rw (getD-tabulate (p .d) lowest j 0 h) (last-by-lower (stairs (state-in p ok (p .l))) j h);
+    },
+  )
+    where
+      lowest : ℕ → ℕ
+      lowest j = min (entry (lastMatrix p) 0 j) (entry (lastMatrix p) (p .d) j)
+
+  module _ {ks : List ℕ} (e : EndsIn p ks) where
+    -- .. and they have l bits.
+    pub ends-in-fit : (j : ℕ) → j < p .d → getD ks j 0 < 2 ^ p .l
+    unfolding lastMatrix matrixIn
+    ends-in-fit = scalar-fits (p .l) (ok .start) (stepBits p) (length-stepBits p) (stepBits-below p) ks (e .first) (e .last)
+
+    -- The plan, not a plan: it has the start order that these scalars and its end order give ..
+    pub plan-of-scalars-start : p .start ≡ encodeWith (p .d) (p .l) ks (endOrder p) .start
+    unfolding encodeWith lastMatrix matrixIn endOrder orderIn
+    plan-of-scalars-start =
+        ok .columns
+        ∙ ap (map suc) (sym (start-back (p .l) (ok .start) (stepBits p) (length-stepBits p) (stepBits-below p) ks (e .first) (e .last)))
+
+    -- .. the bits of each step ..
+    worked-out : (s : ℕ) → s < p .l → encodedBits (p .l) ks (endOrder p) s ≡ stepBits p s
+    unfolding lastMatrix matrixIn endOrder orderIn
+    worked-out = bits-back (p .l) (ok .start) (stepBits p) (length-stepBits p) (stepBits-below p) ks (e .first) (e .last)
+
+    pub plan-of-scalars-bits : (s : ℕ) → s < p .l → stepBits p s ≡ stepBits (encodeWith (p .d) (p .l) ks (endOrder p)) s
+    unfolding endOrder
+    plan-of-scalars-bits s h = sym (encoded-step-bits (p .l) ks (state-in p ok (p .l) .order) s h ∙ worked-out s h)
+
+    -- .. and, where the filling bits are 0, the very bytes.
+    pub plan-of-scalars-bytes : length (p .bits) ≡ bitsLength (p .d) (p .l) → ((i : ℕ) → getD (p .bits) i 0 < 256)
+        → ((i : ℕ) → p .l * p .d ≤ i → bitAt (p .bits) i ≡ 0)
+        → p .bits ≡ encodeWith (p .d) (p .l) ks (endOrder p) .bits
+    unfolding encodeWith bitsLength bitsAt
+    plan-of-scalars-bytes long bytes filling =
+        sym
+        (ap packBits
+        (joined-same (p .l) (encodedBits (p .l) ks (endOrder p)) (stepBits p) worked-out ∙ bits-in-order (p .bits) (p .d) (p .l))
+        ∙ pack-bits-of (p .bits) (p .l * p .d) bytes long filling)
+
 -- ---- what is decoded
 
 module _ (p : Plan) (ok : Accepted p) where
@@ -117,43 +187,6 @@ module _ (p : Plan) (ok : Accepted p) where
   decode-words =
       ap (λ n. numbersOf n (valueWords (p .l)) (wordsOfAll (valueWords (p .l)) (answerRow p))) (sym answer-wide)
       ∙ numbersOf-wordsOfAll (valueWords (p .l)) (answerRow p) (λ j. value-fits (p .l) (getD (answerRow p) j 0) (answer-bound j))
-
-  -- What a walk of orders and signs alone yields is the answer row.
-  pub answer-by-walk : (j : ℕ) → j < p .d
-      → getD (answerRow p) j 0
-      ≡ walkedEntry (walked (p .d) (startOrder p) (stepBits p) (p .l) j) (pred (p .answer)) (endOrder p) j
-  unfolding answerRow lastMatrix matrixIn endOrder orderIn
-  answer-by-walk j h =
-      entry-by-walk (ok .start) (stepBits p) (length-stepBits p) (stepBits-below p) (p .l) (pred (p .answer)) j answer-place h
-
-  -- The lower of the two numbers that column j of the last matrix holds.
-  abbrev pub lowerNeighbours : List ℕ
-  lowerNeighbours = neighbours (p .l) (ok .start) (stepBits p) (length-stepBits p) (stepBits-below p)
-
-  -- The plan, not a plan: encoding the lower neighbours with the last matrix's order gives back the start order ..
-  pub the-start : encodeWith (p .d) (p .l) lowerNeighbours (endOrder p) .start ≡ p .start
-  unfolding encodeWith endOrder orderIn
-  the-start =
-      ap (map suc) (start-back (p .l) (ok .start) (stepBits p) (length-stepBits p) (stepBits-below p)) ∙ sym (ok .columns)
-
-  -- .. and the bits of each step.
-  pub the-bits : (s : ℕ) → s < p .l → stepBits (encodeWith (p .d) (p .l) lowerNeighbours (endOrder p)) s ≡ stepBits p s
-  unfolding endOrder orderIn
-  the-bits s h =
-      encoded-step-bits (p .l) lowerNeighbours (state-after (ok .start) (stepBits p) (length-stepBits p) (p .l) .order) s h
-      ∙ bits-back (p .l) (ok .start) (stepBits p) (length-stepBits p) (stepBits-below p) s h
-
-  -- Where the filling bits are 0, it gives back the very bytes.
-  pub the-bytes : length (p .bits) ≡ bitsLength (p .d) (p .l) → ((i : ℕ) → getD (p .bits) i 0 < 256)
-      → ((i : ℕ) → p .l * p .d ≤ i → bitAt (p .bits) i ≡ 0)
-      → encodeWith (p .d) (p .l) lowerNeighbours (endOrder p) .bits ≡ p .bits
-  unfolding encodeWith endOrder orderIn bitsLength bitsAt
-  the-bytes long bytes filling =
-      ap packBits
-      (joined-same (p .l) (encodedBits (p .l) lowerNeighbours (orderAfter (startOrder p) (stepBits p) (p .l))) (stepBits p)
-      (bits-back (p .l) (ok .start) (stepBits p) (length-stepBits p) (stepBits-below p))
-      ∙ bits-in-order (p .bits) (p .d) (p .l))
-      ∙ pack-bits-of (p .bits) (p .l * p .d) bytes long filling
 
   -- ---- what is evaluated
 

@@ -1,25 +1,24 @@
 -- Demand 3, for every accepted plan: a state matrix before and after each step; each step one doubling and d additions; the two
--- rows of an addition differ by a vector of -1, 0, 1 that is not all zero, and the trace records the true one; the difference
--- run ends in the plain run's registers.
+-- rows of an addition differ by a vector of -1, 0, 1 that is not all zero, one column more with each addition, and the trace
+-- records the true one; the difference run ends in the plain run's registers.
 -- Assumes nothing.
 use Prim.Native.Nat.{ℕ, suc, _^_, _≤_, _<_}
 use mathlib.Core.Path.{_≡_, refl, sym, ap, ap₂, subst, _∙_}
 use mathlib.Core.List.{List, []}
 use native.Mathlib.Omega.{arith}
 use lib.IntN.{pos}
-use lib.ListN.{length, getD, length-map}
+use lib.ListN.{length, getD, set, length-map}
 use Rattle.ladder.specs.Lists.{ones}
-use Rattle.ladder.specs.Matrix.{Row, Matrix, row, entry, addRows, doubleRow, StateMatrix, signsOf, Pair, additions, step, matrixAfter, IsUnit, IsSmall}
+use Rattle.ladder.specs.Matrix.{Row, Matrix, row, entry, addRows, doubleRow, StateMatrix, signsOf, Pair, additions, step, matrixAfter, orderAfter, IsUnit, IsSmall}
 use Rattle.ladder.specs.Plan.{Plan, stepBits, matrixIn, orderIn, signsIn}
-use Rattle.ladder.specs.Trace.{difference, Entry, operations, entryOf, block, blockIn}
+use Rattle.ladder.specs.Trace.{vectorOf, Entry, operations, entryOf, block, blockIn}
 use Rattle.ladder.specs.Registers.{modulus, plainRegisters, differenceRegisters}
 use Rattle.ladder.specs.Refusals.{runRefusal}
 use Rattle.ladder.proofs.Lists.{getD-map, ones-le}
-use Rattle.ladder.proofs.Step.{rowY-inside, length-additions, additions-x, additions-y, row-step-suc, noPair}
-use Rattle.ladder.proofs.Stairs.{stairs}
+use Rattle.ladder.proofs.Step.{length-additions, additions-x, additions-y, row-step-suc, noPair}
 use Rattle.ladder.proofs.Ladder.{state-after, signs-after, entry-bound}
 use Rattle.ladder.proofs.Bits.{length-stepBits, stepBits-below}
-use Rattle.ladder.proofs.Vectors.{vector-small, vector-not-zero, rows-apart, difference-at, sub-le}
+use Rattle.ladder.proofs.Vectors.{vector-doubling, vector-small, vector-not-zero, addition-apart, addition-inside, vector-filled}
 use Rattle.ladder.proofs.Registers.{runs-agree}
 use Rattle.ladder.proofs.Refusals.{Accepted, run-accepted-plan}
 
@@ -29,7 +28,7 @@ pub record Adds (d : ℕ) (B : Matrix) (new : Row) (e : Entry) : Type 0 where
   pub apart : e .x < e .y
   pub inside : e .y ≤ d
   pub sum : new ≡ addRows (row B (e .x)) (row B (e .y))
-  pub true-vector : e .vector ≡ difference d (row B (e .y)) (row B (e .x))
+  pub true-vector : e .vector ≡ vectorOf d B (record { x = e .x; y = e .y })
   pub small : (j : ℕ) → IsSmall (getD (e .vector) j (pos 0))
   pub not-zero : (j : ℕ) × (j < d) × IsUnit (getD (e .vector) j (pos 0))
 
@@ -53,24 +52,24 @@ module _ {d : ℕ} {B : Matrix} {S : List ℕ} (M : StateMatrix d B S) (r : List
     inside = l;
     sum = e;
     true-vector = refl;
-    small = vector-small (stairs M) (p .x) (p .y) (omega arith) l;
-    not-zero = vector-not-zero (stairs M) (p .x) (p .y) (omega arith) l h;
+    small = vector-small M p (omega arith) l;
+    not-zero = vector-not-zero M p (omega arith) l h;
   }
+
+  -- Entry i of a step's block is that of its operation i.
+  block-entry : (i : ℕ) → i ≤ d → getD (block d B r) i noEntry ≡ entryOf d B (getD (operations r) i noPair)
+  unfolding block operations
+  block-entry i h = getD-map (entryOf d B) (operations r) i noPair noEntry (omega (arith, length-additions r))
 
   -- Each entry of a step's block but the first is an addition ..
   pub block-adds : (i : ℕ) → i < d → Adds d B (row (step B r) (suc i)) (getD (block d B r) (suc i) noEntry)
-  unfolding block operations
+  unfolding operations
   block-adds i h =
       let b : i < length r = omega arith in
-      let p = getD (additions r) i noPair in
-      let ex = additions-x r i noPair b in
-      let ey = additions-y r i noPair b in
-      subst (Adds d B (row (step B r) (suc i)))
-      (sym (getD-map (entryOf d B) (additions r) i noPair noEntry (omega (arith, length-additions r))))
-      (pair-adds p (row (step B r) (suc i))
-      (omega (arith, ex, ey, rows-apart r i b))
-      (omega (arith, ey, rowY-inside r (suc i) b))
-      (row-step-suc B r i b ∙ ap₂ (λ x y. addRows (row B x) (row B y)) (sym ex) (sym ey)))
+      subst (Adds d B (row (step B r) (suc i))) (sym (block-entry (suc i) h))
+      (pair-adds (getD (additions r) i noPair) (row (step B r) (suc i)) (addition-apart r i b) (omega (arith, addition-inside r i b))
+      (row-step-suc B r i b
+      ∙ ap₂ (λ x y. addRows (row B x) (row B y)) (sym (additions-x r i noPair b)) (sym (additions-y r i noPair b))))
 
   -- .. and the first is a doubling.
   pub block-doubles : Doubles d B (row (step B r) 0) (getD (block d B r) 0 noEntry)
@@ -79,9 +78,7 @@ module _ {d : ℕ} {B : Matrix} {S : List ℕ} (M : StateMatrix d B S) (r : List
     one-row = refl;
     inside = omega (arith, ones-le r);
     twice = refl;
-    zeros = λ j h.
-        difference-at d (row B (ones r)) (row B (ones r)) j h
-        ∙ sub-le (entry B (ones r) j) (entry B (ones r) j) (omega arith) ∙ ap pos (omega arith);
+    zeros = vector-doubling d B (ones r);
   }
 
   -- There are d+1 of them.
@@ -112,6 +109,20 @@ module _ (p : Plan) (ok : Accepted p) where
       → Adds (p .d) (matrixIn p s) (row (matrixIn p (suc s)) (suc i)) (getD (blockIn p s) (suc i) noEntry)
   unfolding blockIn matrixIn matrixAfter
   addition-in s i h = block-adds (state-in s) (stepBits p s) (length-stepBits p s) i h
+
+  -- With each addition one more column: the vector of entry i+1 is that of entry i with the sign, before the step, of the column at
+  -- place i of the new order filled in.
+  pub vector-next : (s i : ℕ) → i < p .d
+      → getD (blockIn p s) (suc i) noEntry .vector
+      ≡ set (getD (blockIn p s) i noEntry .vector) (getD (orderIn p (suc s)) i 0)
+      (getD (signsIn p s) (getD (orderIn p (suc s)) i 0) (pos 0))
+  unfolding blockIn orderIn orderAfter entryOf
+  vector-next s i h =
+      let entry-is = block-entry (state-in s) (stepBits p s) (length-stepBits p s) in
+      let j = getD (orderIn p (suc s)) i 0 in
+      ap (λ e. e .vector) (entry-is (suc i) h)
+      ∙ vector-filled (state-in s) (stepBits p s) (length-stepBits p s) i h
+      ∙ ap₂ (λ e signs. set (e .vector) j (getD signs j (pos 0))) (sym (entry-is i (omega arith))) (signs-in s)
 
   pub entries-in : (s : ℕ) → length (blockIn p s) ≡ suc (p .d)
   unfolding blockIn

@@ -1,7 +1,7 @@
 -- What is written has its length: decoded values, an encoded plan's buffers, a plan file.
 -- Assumes nothing.
 use Prim.Native.Nat.{ℕ, suc, pred, _*_, _≤_}
-use mathlib.Core.Path.{_≡_, sym, ap, _∙_}
+use mathlib.Core.Path.{_≡_, refl, sym, ap, _∙_}
 use mathlib.Core.List.{List}
 use native.Mathlib.Omega.{arith}
 use lib.ListN.{length, length-append, length-map}
@@ -11,7 +11,7 @@ use Rattle.ladder.specs.Matrix.{Arrangement}
 use Rattle.ladder.specs.Plan.{Plan, startOrder, stepBits, answerRow, valuesIn}
 use Rattle.ladder.specs.Encoding.{encodedStart, encodedBits, encodeWith}
 use Rattle.ladder.specs.PlanFile.{mark, trailerSize, bodyLength, fileLength, twoBytes, fourBytes, fileOf}
-use Rattle.ladder.specs.Refusals.{planRefusal, planShape}
+use Rattle.ladder.specs.Refusals.{planRefusal, planShape, looseRefusal}
 use Rattle.ladder.proofs.Lists.{length-joined}
 use Rattle.ladder.proofs.Numbers.{length-wordsOfAll}
 use Rattle.ladder.proofs.Bits.{length-packBits, length-stepBits}
@@ -41,10 +41,10 @@ module _ {d : ℕ} (l : ℕ) (ks : List ℕ) {E : List ℕ} (a : Arrangement d E
       (shape-none _ _ .1 (packed-length d l (encodedBits l ks E) (length-encodedBits l ks a)))
 
   -- .. so no call refuses it.
-  pub encoded-not-refused : length ks ≡ d → 1 ≤ d → d ≤ 8 → 1 ≤ l → l ≤ 576
-      → planRefusal (encodeWith d l ks E) (planShape (encodeWith d l ks E)) ≡ 0
+  pub encoded-not-refused : length ks ≡ d → 1 ≤ d → d ≤ 8 → 1 ≤ l → l ≤ 576 → looseRefusal (encodeWith d l ks E) 0 ≡ 0
+  unfolding looseRefusal
   encoded-not-refused wide h₁ h₂ h₃ h₄ =
-      ap (planRefusal (encodeWith d l ks E)) encoded-shape
+      ap (planRefusal (encodeWith d l ks E)) (none-then _ _ encoded-shape refl)
       ∙ accept (encodeWith d l ks E) (encoded-accepted l ks a wide h₁ h₂ h₃ h₄)
 
 -- An accepted plan's start order has d places.

@@ -5,11 +5,11 @@ use mathlib.Core.Path.{_≡_, ap, subst, _∙_}
 use mathlib.Core.Logic.{_↔_, _⊎_, Iff·trans}
 use mathlib.Core.List.{List}
 use lib.ListN.{length, getD}
-use Rattle.ladder.specs.Numbers.{scalarWords, scalarsLength, valuesLength, startLength, elementsLength, registersLength, bitsLength, traceLength}
+use Rattle.ladder.specs.Numbers.{scalarWords, scalarsLength, valuesLength, startLength, elementsLength, registersLength, bitsLength, traceLength, longestText}
 use Rattle.ladder.specs.Plan.{Plan}
 use Rattle.ladder.specs.Walk.{Walk}
 use Rattle.ladder.specs.PlanFile.{mark, trailerSize, bodyLength, fileLength, dIn, lIn, distanceIn, markIn, planIn}
-use Rattle.ladder.specs.Refusals.{_then_, scalar, planRefusal, planShape, scalarsIn, encodeRefusal, decodeRefusal, checkRefusal, stepRefusal, traceRefusal, runRefusal, packRefusal, unpackRefusal, listRefusal}
+use Rattle.ladder.specs.Refusals.{scalar, planRefusal, planShape, looseRefusal, scalarsIn, encodeRefusal, decodeRefusal, checkRefusal, stepRefusal, traceRefusal, runRefusal, packRefusal, unpackRefusal, listRefusal, listingRefusal}
 use Rattle.ladder.proofs.Numbers.{length-numbersOf}
 use Rattle.ladder.proofs.Tests.{then-says}
 use Rattle.ladder.proofs.Refusals.{dim-none, len-none, shape-none, stepShape-none, scalar-none, WalkOk, walkOrder-none, tooLarge-none, element-none, Accepted, accepted, accepted-shapes, accept}
@@ -38,10 +38,10 @@ pub plan-none : (p : Plan) {shapes : ℕ} {Q : Type 0} → shapes ≡ 0 ↔ Q �
 plan-none p {shapes} q =
     (λ e. (accepted p shapes e, q .0 (accepted-shapes p shapes e)), λ t. ap (planRefusal p) (q .1 (t .1)) ∙ accept p (t .0))
 
--- A plan lent with other buffers.
-pub lent-none : (p : Plan) {shapes : ℕ} {Q : Type 0} → shapes ≡ 0 ↔ Q → planRefusal p (planShape p then shapes) ≡ 0 ↔ PlanOk p × Q
-unfolding planShape
-lent-none p q =
+-- A loose plan is not refused where it is accepted, its buffers have their lengths, and what its call's others ask is so.
+pub loose-none : (p : Plan) {others : ℕ} {Q : Type 0} → others ≡ 0 ↔ Q → looseRefusal p others ≡ 0 ↔ PlanOk p × Q
+unfolding looseRefusal planShape
+loose-none p q =
     Iff·trans
     (plan-none p (then-says (then-says (shape-none (p .start) (startLength (p .d))) (shape-none (p .bits) (bitsLength (p .d) (p .l)))) q)) (
       λ t. (record { plan = t .0; start = t .1 .0 .0; bits = t .1 .0 .1 }, t .1 .1),
@@ -88,7 +88,7 @@ pub record DecodeOk (p : Plan) (values : List ℕ) : Type 0 where
 pub decode-none : (p : Plan) (values : List ℕ) → decodeRefusal p values ≡ 0 ↔ DecodeOk p values
 unfolding decodeRefusal
 decode-none p values =
-    Iff·trans (lent-none p (shape-none values (valuesLength (p .d) (p .l))))
+    Iff·trans (loose-none p (shape-none values (valuesLength (p .d) (p .l))))
     (λ t. record { plan = t .0; valuesLong = t .1 }, λ k. (k .plan, k .valuesLong))
 
 -- What check asks.
@@ -101,7 +101,7 @@ pub record CheckOk (p : Plan) (scalars : List ℕ) : Type 0 where
 pub check-none : (p : Plan) (scalars : List ℕ) → checkRefusal p scalars ≡ 0 ↔ CheckOk p scalars
 unfolding checkRefusal
 check-none p scalars =
-    Iff·trans (then-says (lent-none p (shape-none scalars (scalarsLength (p .d) (p .l)))) (scalars-none (p .d) (p .l) scalars))
+    Iff·trans (then-says (loose-none p (shape-none scalars (scalarsLength (p .d) (p .l)))) (scalars-none (p .d) (p .l) scalars))
     (λ t. record { plan = t .0 .0; scalarsLong = t .0 .1; fit = t .1 }, λ k. ((k .plan, k .scalarsLong), k .fit))
 
 -- What step asks.
@@ -126,7 +126,7 @@ pub record TraceOk (p : Plan) (trace : List ℕ) : Type 0 where
 pub trace-none : (p : Plan) (trace : List ℕ) → traceRefusal p trace ≡ 0 ↔ TraceOk p trace
 unfolding traceRefusal
 trace-none p trace =
-    Iff·trans (lent-none p (shape-none trace (traceLength (p .d) (p .l))))
+    Iff·trans (loose-none p (shape-none trace (traceLength (p .d) (p .l))))
     (λ t. record { plan = t .0; traceLong = t .1 }, λ k. (k .plan, k .traceLong))
 
 -- What the plain run and the difference run ask.
@@ -143,7 +143,7 @@ unfolding runRefusal
 run-none p m elements registers =
     Iff·trans
     (then-says
-    (lent-none p (then-says (shape-none elements (elementsLength (p .d))) (shape-none registers (registersLength (p .d)))))
+    (loose-none p (then-says (shape-none elements (elementsLength (p .d))) (shape-none registers (registersLength (p .d)))))
     (then-says (tooLarge-none m) (element-none m elements))) (
       λ t. record { plan = t .0 .0; elementsLong = t .0 .1 .0; registersLong = t .0 .1 .1; modulus = t .1 .0; below = t .1 .1 },
       λ k. ((k .plan, (k .elementsLong, k .registersLong)), (k .modulus, k .below)),
@@ -158,7 +158,7 @@ pub record PackOk (p : Plan) (file : List ℕ) : Type 0 where
 pub pack-none : (p : Plan) (file : List ℕ) → packRefusal p file ≡ 0 ↔ PackOk p file
 unfolding packRefusal
 pack-none p file =
-    Iff·trans (lent-none p (shape-none file (fileLength (p .d) (p .l))))
+    Iff·trans (loose-none p (shape-none file (fileLength (p .d) (p .l))))
     (λ t. record { plan = t .0; fileLong = t .1 }, λ k. (k .plan, k .fileLong))
 
 -- What unpack asks.
@@ -178,13 +178,26 @@ unpack-none file =
       λ k. ((k .twelve, k .marked), (k .plan, (k .far, k .before))),
     )
 
--- What the listing asks.
+-- What the listing program asks.
 pub record ListOk (file : List ℕ) : Type 0 where
   pub small : length file ≤ 4096
   pub unpack : UnpackOk file
 
--- The listing refuses nothing exactly where that is so.
+-- The listing program refuses nothing exactly where that is so.
 pub list-none : (file : List ℕ) → listRefusal file ≡ 0 ↔ ListOk file
 unfolding listRefusal
 list-none file =
     Iff·trans (then-says (big-none file) (unpack-none file)) (λ t. record { small = t .0; unpack = t .1 }, λ k. (k .small, k .unpack))
+
+-- What the listing asks.
+pub record ListingOk (file text : List ℕ) : Type 0 where
+  pub small : length file ≤ 4096
+  pub textLong : length text ≡ longestText
+  pub unpack : UnpackOk file
+
+-- The listing refuses nothing exactly where that is so.
+pub listing-none : (file text : List ℕ) → listingRefusal file text ≡ 0 ↔ ListingOk file text
+unfolding listingRefusal
+listing-none file text =
+    Iff·trans (then-says (big-none file) (then-says (shape-none text longestText) (unpack-none file)))
+    (λ t. record { small = t .0; textLong = t .1 .0; unpack = t .1 .1 }, λ k. (k .small, (k .textLong, k .unpack)))

@@ -1,21 +1,20 @@
 -- When each refusal is 0, so that a call goes on, and which numbers it can be.
 -- Assumes nothing.
-use Prim.Native.Nat.{ℕ, pred, zero, suc, min, _^_, _≤_, _<_}
+use Prim.Native.Nat.{ℕ, zero, suc, _^_, _≤_, _<_}
 use mathlib.Core.Path.{_≡_, refl, sym}
 use mathlib.Core.Logic.{_↔_, _⊎_, inl, inr, ⊎-elim}
 use mathlib.Core.List.{List, map}
 use native.Mathlib.Decide.{decLt}
 use native.Mathlib.Omega.{arith}
 use lib.Dec.{eqb}
-use lib.IntN.{pos, negsuc}
-use lib.ListN.{length, length-map, take, getD, length-take, List·getD-eq-default}
-use lib.Seq.{getD-take}
-use Rattle.ladder.specs.Matrix.{Arrangement, OrderOk}
+use lib.IntN.{pos}
+use lib.ListN.{length, take, getD, List·getD-eq-default}
+use Rattle.ladder.specs.Matrix.{Arrangement, OrderOk, Units}
 use Rattle.ladder.specs.Plan.{Plan, startOrder}
 use Rattle.ladder.specs.Registers.{modulus}
 use Rattle.ladder.specs.Walk.{Walk}
-use Rattle.ladder.specs.Refusals.{dim, len, shape, stepShape, scalar, order, isUnit, isZero, isEight, walkOrder, answer, tooLarge, element, trailer, distance, big, planRefusal, runRefusal}
-use Rattle.ladder.proofs.Tests.{Says, then-none, none-then, unless-is, unless-says, reworded, leb-says, eqb-says, and-says, within-says, all-says, past-says, below-says, isArrangement-says, isUnit-says, isZero-says}
+use Rattle.ladder.specs.Refusals.{dim, len, shape, stepShape, scalar, order, isZero, walkOrder, answer, tooLarge, element, trailer, distance, big, readRefusal, planRefusal, looseRefusal, runRefusal}
+use Rattle.ladder.proofs.Tests.{then-none, none-then, then-says, unless-is, unless-says, reworded, leb-says, eqb-says, and-says, within-says, past-says, below-says, isArrangement-says, allUnits-says, isZero-says}
 
 -- ---- the table: each refusal is 0 exactly where what it asks is so
 
@@ -49,56 +48,25 @@ pub order-none : (d : ℕ) (S : List ℕ) → order d S ≡ 0 ↔ OrderOk d S
 unfolding order
 order-none d S = unless-says 4 (isArrangement-says d S)
 
--- A walk state: eight places and eight signs; its first d places are an arrangement of 1..d, the signs of columns 1..d are 1 or -1,
--- and past place d all is 0.
+-- A walk state: its first d places are an arrangement of 1..d, the signs of columns 1..d are 1 or -1, and past place d all is 0.
 pub record WalkOk (w : Walk) : Type 0 where
-  pub eightPlaces : length (w .order) ≡ 8
-  pub eightSigns : length (w .signs) ≡ 8
   pub places : OrderOk (w .d) (take (w .d) (w .order))
-  pub units : (j : ℕ) → j < w .d → (getD (w .signs) j (pos 0) ≡ pos 1) ⊎ (getD (w .signs) j (pos 0) ≡ negsuc 0)
+  pub units : Units (w .d) (w .signs)
   pub restOrder : (j : ℕ) → w .d ≤ j → getD (w .order) j 0 ≡ 0
   pub restSigns : (j : ℕ) → w .d ≤ j → getD (w .signs) j (pos 0) ≡ pos 0
-
-isEight-says : (w : Walk) → Says (isEight w) ((length (w .order) ≡ 8) × (length (w .signs) ≡ 8))
-unfolding isEight
-isEight-says w = and-says (eqb-says (length (w .order)) 8) (eqb-says (length (w .signs)) 8)
-
--- Places of an arrangement in the first d of eight: d is at most 8.
-d-within : (d : ℕ) (S : List ℕ) → length S ≡ 8 → OrderOk d (take d S) → d ≤ 8
-d-within d S e ok =
-    omega (arith, ok .columns .long, length-map (take d S) pred, length-take d S)
 
 -- A walk state is in order.
 pub walkOrder-none : (w : Walk) → walkOrder w ≡ 0 ↔ WalkOk w
 unfolding walkOrder
 walkOrder-none w =
     let places = isArrangement-says (w .d) (take (w .d) (w .order)) in
-    let units = all-says isUnit (pos 0) (take (w .d) (w .signs)) isUnit-says in
+    let units = allUnits-says (w .d) (w .signs) in
     let restOrder = past-says (eqb 0) 0 (w .d) (w .order) (λ n. reworded (eqb-says 0 n) (sym, sym)) in
     let restSigns = past-says isZero (pos 0) (w .d) (w .signs) isZero-says in
-    unless-says 4 (reworded (and-says (and-says (and-says (and-says (isEight-says w) places) units) restOrder) restSigns) (
-      λ t. record {
-        eightPlaces = t .0 .0 .0 .0 .0;
-        eightSigns = t .0 .0 .0 .0 .1;
-        places = t .0 .0 .0 .1;
-        units = λ j h.
-            rw getD-take at
-            (t .0 .0 .1 j
-            (omega (arith, long, t .0 .0 .0 .0 .1, d-within (w .d) (w .order) (t .0 .0 .0 .0 .0) (t .0 .0 .0 .1))));
-        restOrder = t .0 .1;
-        restSigns = t .1;
-      },
-      λ ok. (((((ok .eightPlaces, ok .eightSigns), ok .places), first ok), ok .restOrder), ok .restSigns),
+    unless-says 4 (reworded (and-says (and-says (and-says places units) restOrder) restSigns) (
+      λ t. record { places = t .0 .0 .0; units = t .0 .0 .1; restOrder = t .0 .1; restSigns = t .1 },
+      λ ok. (((ok .places, ok .units), ok .restOrder), ok .restSigns),
     ))
-  where
-    long : length (take (w .d) (w .signs)) ≡ min (w .d) (length (w .signs))
-    long = length-take (w .d) (w .signs)
-
-    first : WalkOk w → (j : ℕ) → j < length (take (w .d) (w .signs))
-        → (getD (take (w .d) (w .signs)) j (pos 0) ≡ pos 1) ⊎ (getD (take (w .d) (w .signs)) j (pos 0) ≡ negsuc 0)
-    first ok j h =
-        let inside : j < w .d = omega (arith, long) in
-        rw getD-take (ok .units j inside)
 
 -- An answer row is from 1 to d+1.
 pub answer-none : (d n : ℕ) → answer d n ≡ 0 ↔ (1 ≤ n) × (n ≤ suc d)
@@ -140,26 +108,29 @@ pub record Accepted (p : Plan) : Type 0 where
   pub answerLow : 1 ≤ p .answer
   pub answerHigh : p .answer ≤ suc (p .d)
 
+-- What is read past the shapes: an arrangement, and a row of the matrix.
+pub read-none : (p : Plan) → readRefusal p ≡ 0 ↔ OrderOk (p .d) (p .start) × ((1 ≤ p .answer) × (p .answer ≤ suc (p .d)))
+unfolding readRefusal
+read-none p = then-says (order-none (p .d) (p .start)) (answer-none (p .d) (p .answer))
+
 planRefusal-none : (p : Plan) (shapes : ℕ) → planRefusal p shapes ≡ 0 → Accepted p × (shapes ≡ 0)
 unfolding planRefusal startOrder
 planRefusal-none p shapes e =
     let a = then-none (dim (p .d)) _ e in
     let b = then-none (len (p .l)) _ (a .1) in
     let c = then-none shapes _ (b .1) in
-    let f = then-none (order (p .d) (p .start)) _ (c .1) in
     let ds = dim-none (p .d) .0 (a .0) in
     let ls = len-none (p .l) .0 (b .0) in
-    let ok = order-none (p .d) (p .start) .0 (f .0) in
-    let row = answer-none (p .d) (p .answer) .0 (f .1) in (
+    let read = read-none p .0 (c .1) in (
       record {
         dLow = ds .0;
         dHigh = ds .1;
         lLow = ls .0;
         lHigh = ls .1;
-        start = ok .columns;
-        columns = ok .counted;
-        answerLow = row .0;
-        answerHigh = row .1;
+        start = read .0 .columns;
+        columns = read .0 .counted;
+        answerLow = read .1 .0;
+        answerHigh = read .1 .1;
       },
       c .0,
     )
@@ -172,20 +143,23 @@ accepted p shapes e = planRefusal-none p shapes e .0
 pub accepted-shapes : (p : Plan) (shapes : ℕ) → planRefusal p shapes ≡ 0 → shapes ≡ 0
 accepted-shapes p shapes e = planRefusal-none p shapes e .1
 
--- An accepted plan with its shapes right is not refused.
+-- Of an accepted plan what is read is not refused ..
+pub accept-read : (p : Plan) → Accepted p → readRefusal p ≡ 0
+unfolding startOrder
+accept-read p ok = read-none p .1 (record { columns = ok .start; counted = ok .columns }, (ok .answerLow, ok .answerHigh))
+
+-- .. so with its shapes right it is not refused.
 pub accept : (p : Plan) → Accepted p → planRefusal p 0 ≡ 0
-unfolding planRefusal startOrder
+unfolding planRefusal
 accept p ok =
     let ds = dim-none (p .d) .1 (ok .dLow, ok .dHigh) in
     let ls = len-none (p .l) .1 (ok .lLow, ok .lHigh) in
-    let columns = order-none (p .d) (p .start) .1 (record { columns = ok .start; counted = ok .columns }) in
-    let row = answer-none (p .d) (p .answer) .1 (ok .answerLow, ok .answerHigh) in
-    none-then _ _ ds (none-then _ _ ls (none-then 0 _ refl (none-then _ _ columns row)))
+    none-then _ _ ds (none-then _ _ ls (none-then 0 _ refl (accept-read p ok)))
 
 -- A run that is not refused has an accepted plan, and elements that fit.
 pub run-accepted-plan : (p : Plan) (m : ℕ) (es regs : List ℕ) → runRefusal p m es regs ≡ 0
     → Accepted p × (((j : ℕ) → getD es j 0 < 2 ^ 64) → (j : ℕ) → getD es j 0 ≤ modulus m)
-unfolding runRefusal
+unfolding runRefusal looseRefusal
 run-accepted-plan p m es regs e =
     let a = then-none (planRefusal p _) _ e in
     let b = then-none (tooLarge m) _ (a .1) in

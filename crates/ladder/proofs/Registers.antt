@@ -11,12 +11,12 @@ use lib.IntN.{ℤ, subℕ}
 use lib.ListN.{length, getD, replicate, length-replicate}
 use Rattle.ladder.specs.Lists.{tabulate, ones}
 use Rattle.ladder.specs.Matrix.{Row, Matrix, row, Arrangement, StateMatrix, addRows, doubleRow, bump, rowsFrom, startMatrix, Pair, additions, step, matrixAfter}
-use Rattle.ladder.specs.Trace.{difference}
+use Rattle.ladder.specs.Trace.{difference, vectorOf}
 use Rattle.ladder.specs.Registers.{Rule, stepRegisters, registersAfter, modulus, sumOf, combination, timesSigned, signedSum, plainRule, differenceRule, differenceAdd, startFrom, startRegisters}
 use Rattle.ladder.proofs.Lists.{getD-map, map-map, map-same, ones-le}
-use Rattle.ladder.proofs.Step.{rowY-inside, length-additions, additions-x, additions-y}
+use Rattle.ladder.proofs.Step.{length-additions, noPair}
 use Rattle.ladder.proofs.Ladder.{length-bump, state-after}
-use Rattle.ladder.proofs.Vectors.{sub-le, sub-lt, rows-apart}
+use Rattle.ladder.proofs.Vectors.{sub-le, sub-lt, addition-apart, addition-inside}
 
 -- ---- over any kind of value
 
@@ -25,19 +25,19 @@ use Rattle.ladder.proofs.Vectors.{sub-le, sub-lt, rows-apart}
 pub record Respects {A : Type 0} (rule : Rule A) (d : ℕ) (value : Row → A) : Type 0 where
   pub doubles : (B : Matrix) (S : List ℕ) → StateMatrix d B S → (i : ℕ) → i ≤ d
       → rule .double (value (row B i)) ≡ value (doubleRow (row B i))
-  pub adds : (B : Matrix) (S : List ℕ) → StateMatrix d B S → (x y : ℕ) → x < y → y ≤ d
-      → rule .add (value (row B x)) (value (row B y)) (difference d (row B y) (row B x)) ≡ value (addRows (row B x) (row B y))
+  pub adds : (B : Matrix) (S : List ℕ) → StateMatrix d B S → (p : Pair) → p .x < p .y → p .y ≤ d
+      → rule .add (value (row B (p .x))) (value (row B (p .y))) (vectorOf d B p) ≡ value (addRows (row B (p .x)) (row B (p .y)))
 
 module _ {A : Type 0} {rule : Rule A} {d : ℕ} {value : Row → A} (R : Respects rule d value) where
   held : {B : Matrix} {S : List ℕ} → StateMatrix d B S → (i : ℕ) → i ≤ d
       → getD (map value B) i (rule .none) ≡ value (row B i)
   held {B} M i h = getD-map value B i [] (rule .none) (omega (arith, M .rows))
 
-  value-sum : {B : Matrix} {S : List ℕ} → StateMatrix d B S → (x y : ℕ) → x < y → y ≤ d
-      → rule .add (getD (map value B) x (rule .none)) (getD (map value B) y (rule .none)) (difference d (row B y) (row B x))
-      ≡ value (addRows (row B x) (row B y))
-  value-sum {B} {S} M x y h l =
-      ap₂ (λ a b. rule .add a b (difference d (row B y) (row B x))) (held M x (omega arith)) (held M y l) ∙ R .adds B S M x y h l
+  value-sum : {B : Matrix} {S : List ℕ} → StateMatrix d B S → (p : Pair) → p .x < p .y → p .y ≤ d
+      → rule .add (getD (map value B) (p .x) (rule .none)) (getD (map value B) (p .y) (rule .none)) (vectorOf d B p)
+      ≡ value (addRows (row B (p .x)) (row B (p .y)))
+  value-sum {B} {S} M p h l =
+      ap₂ (λ a b. rule .add a b (vectorOf d B p)) (held M (p .x) (omega arith)) (held M (p .y) l) ∙ R .adds B S M p h l
 
   -- One step takes the values of a state matrix's rows to the values of the next one's.
   pub value-step : {B : Matrix} {S : List ℕ} → StateMatrix d B S → (r : List ℕ) → length r ≡ d
@@ -47,18 +47,13 @@ module _ {A : Type 0} {rule : Rule A} {d : ℕ} {value : Row → A} (R : Respect
       ap₂ (λ a rest. a ∷ rest)
       (ap (rule .double) (held M (ones r) (omega (arith, ones-le r))) ∙ R .doubles B S M (ones r) (omega (arith, ones-le r)))
       (map-same
-      (λ p. rule .add (getD (map value B) (p .x) (rule .none)) (getD (map value B) (p .y) (rule .none)) (difference d (row B (p .y)) (row B (p .x))))
+      (λ p. rule .add (getD (map value B) (p .x) (rule .none)) (getD (map value B) (p .y) (rule .none)) (vectorOf d B p))
       (λ p. value (addRows (row B (p .x)) (row B (p .y))))
-      (additions r) zeros
+      (additions r) noPair
       (λ i h.
       let b : i < length r = omega (arith, length-additions r) in
-      value-sum M (getD (additions r) i zeros .x) (getD (additions r) i zeros .y)
-      (omega (arith, additions-x r i zeros b, additions-y r i zeros b, rows-apart r i b))
-      (omega (arith, additions-y r i zeros b, rowY-inside r (suc i) b)))
+      value-sum M (getD (additions r) i noPair) (addition-apart r i b) (omega (arith, addition-inside r i b)))
       ∙ sym (map-map value (λ p. addRows (row B (p .x)) (row B (p .y))) (additions r)))
-    where
-      zeros : Pair
-      zeros = record { x = 0; y = 0 }
 
   -- The registers after each step are the values of the rows, if they are at the start.
   pub registers-are-values : {S : List ℕ} → Arrangement d S → (r : ℕ → List ℕ) → ((s : ℕ) → length (r s) ≡ d) → (regs : List A)
@@ -131,9 +126,9 @@ plain-respects m es d = record {
   doubles = λ B S M i h.
       sym (add-mod (sumOf (row B i) es) (sumOf (row B i) es) (modulus m))
       ∙ ap (λ n. n % modulus m) (sym (sumOf-doubleRow (row B i) es));
-  adds = λ B S M x y h l.
-      sym (add-mod (sumOf (row B x) es) (sumOf (row B y) es) (modulus m))
-      ∙ ap (λ n. n % modulus m) (sym (sumOf-addRows (row B x) (row B y) es));
+  adds = λ B S M p h l.
+      sym (add-mod (sumOf (row B (p .x)) es) (sumOf (row B (p .y)) es) (modulus m))
+      ∙ ap (λ n. n % modulus m) (sym (sumOf-addRows (row B (p .x)) (row B (p .y)) es));
 }
 
 -- ---- the difference run
@@ -188,17 +183,17 @@ difference-sum m (suc d) (a ∷ u) (b ∷ v) (e ∷ es) h l f k =
 
 pub difference-respects : (m : ℕ) (es : List ℕ) (d : ℕ) → ((j : ℕ) → getD es j 0 ≤ modulus m)
     → Respects (differenceRule m es) d (combination m es)
-unfolding differenceRule differenceAdd combination
+unfolding differenceRule differenceAdd combination vectorOf
 difference-respects m es d fits = record {
   doubles = λ B S M i h.
       sym (add-mod (sumOf (row B i) es) (sumOf (row B i) es) (modulus m))
       ∙ ap (λ n. n % modulus m) (sym (sumOf-doubleRow (row B i) es));
-  adds = λ B S M x y h l.
-      let X = sumOf (row B x) es in
-      let D = signedSum m (difference d (row B y) (row B x)) es in
-      twice X D (modulus m)
-      ∙ difference-sum m d (row B x) (row B y) es (M .wide x (omega arith)) (M .wide y l) fits X
-      ∙ ap (λ n. n % modulus m) (add-comm (sumOf (row B y) es) X ∙ sym (sumOf-addRows (row B x) (row B y) es));
+  adds = λ B S M p h l.
+      let u = row B (p .x) in
+      let v = row B (p .y) in
+      twice (sumOf u es) (signedSum m (vectorOf d B p) es) (modulus m)
+      ∙ difference-sum m d u v es (M .wide (p .x) (omega arith)) (M .wide (p .y) l) fits (sumOf u es)
+      ∙ ap (λ n. n % modulus m) (add-comm (sumOf v es) (sumOf u es) ∙ sym (sumOf-addRows u v es));
 }
   where
     twice : (a k M : ℕ) → (2 * (a % M) + k) % M ≡ (a + (k + a)) % M

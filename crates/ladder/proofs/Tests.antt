@@ -6,16 +6,16 @@ use mathlib.Core.Logic.{_↔_, _⊎_, inl, inr, ⊎-elim}
 use mathlib.Core.Bool.{Bool, true, false, cond, _&&_}
 use mathlib.Core.List.{List, [], _∷_, map}
 use native.Mathlib.Nat.{le-of-suc-le-suc, not-suc-le-zero, suc-pred-eq-of-pos}
-use native.Mathlib.Decide.{ℕ-discrete, decLt}
+use native.Mathlib.Decide.{ℕ-discrete, decLe, decLt}
 use native.Mathlib.Omega.{arith}
 use lib.Dec.{T, eqb, leb, ltb, leb→le, le→leb, eqb→eq, eqb-refl, eqb·suc-suc}
-use lib.IntN.{ℤ, pos, negsuc, pos-ne-negsuc}
+use lib.IntN.{ℤ, pos, negsuc, natAbs, pos-ne-negsuc}
 use lib.ListN.{length, drop, getD, length-map, List·getD-map, List·getD-eq-default}
 use lib.Seq.{getD-drop}
-use Rattle.ladder.specs.Lists.{same, count, all}
-use Rattle.ladder.specs.Matrix.{OrderOk}
-use Rattle.ladder.specs.Refusals.{_then_, refusing, unless, within, eachOnce, isArrangement, isUnit, isZero}
-use Rattle.ladder.proofs.Lists.{getD-map}
+use Rattle.ladder.specs.Lists.{tabulate, same, count, all}
+use Rattle.ladder.specs.Matrix.{OrderOk, IsUnit, Units}
+use Rattle.ladder.specs.Refusals.{_then_, refusing, unless, within, eachOnce, isArrangement, isUnit, allUnits, isZero}
+use Rattle.ladder.proofs.Lists.{length-tabulate, getD-tabulate, getD-map}
 
 -- ---- tests and their order
 
@@ -192,7 +192,11 @@ eachOnce-says (suc n) S =
 
 -- ---- orders
 
--- A place of such an order holds a column from 1 to d.
+-- An order has d places ..
+pub order-long : {d : ℕ} (S : List ℕ) → OrderOk d S → length S ≡ d
+order-long S o = sym (length-map S pred) ∙ o .columns .long
+
+-- .. and each holds a column from 1 to d.
 pub order-at : {d : ℕ} (S : List ℕ) → OrderOk d S → (k : ℕ) → k < d
     → (1 ≤ getD S k 0) × (getD S k 0 - 1 ≡ getD (map pred S) k 0) × (getD (map pred S) k 0 < d)
 order-at S o k h =
@@ -228,7 +232,7 @@ isArrangement-says d S =
             counted = counted;
           },
       λ ok.
-          let long : length S ≡ d = sym (length-map S pred) ∙ ok .columns .long in (
+          let long = order-long S ok in (
             (long, λ j h. omega (arith, at ok j h, ok .columns .inside j (omega arith))),
             λ j h. ap (count (suc j)) (ok .counted) ∙ count-suc j (map pred S) ∙ ok .columns .once j h,
           ),
@@ -247,6 +251,31 @@ isUnit-says (pos n) =
     reworded (eqb-says n 1) (λ e. inl (ap pos e), ⊎-elim (λ e. (cc)) (λ e. absurd (pos-ne-negsuc n 0 e)))
 isUnit-says (negsuc n) =
     reworded (eqb-says n 0) (λ e. inr (ap negsuc e), ⊎-elim (λ e. absurd (pos-ne-negsuc 1 n (sym e))) (λ e. (cc)))
+
+-- The first d signs are 1 or -1 ..
+pub allUnits-says : (d : ℕ) (signs : List ℤ) → Says (allUnits d signs) (Units d signs)
+unfolding allUnits
+allUnits-says d signs =
+    let sign : ℕ → ℤ = λ j. getD signs j (pos 0) in
+    reworded (all-says isUnit (pos 0) (tabulate d sign) isUnit-says) (
+      λ f j h. rw (getD-tabulate d sign j (pos 0) h) at (f j (omega (arith, length-tabulate d sign))),
+      λ f j h.
+          let b : j < d = omega (arith, length-tabulate d sign) in
+          rw (getD-tabulate d sign j (pos 0) b) (f j b),
+    )
+
+-- .. so there are as many: one that the list lacks counts as 0.
+pub units-long : (d : ℕ) (signs : List ℤ) → Units d signs → d ≤ length signs
+units-long d signs u = go (decLe d (length signs))
+  where
+    zero-no-unit : IsUnit (pos 0) → ⊥
+    zero-no-unit (inl e) = omega (arith, ap natAbs e)
+    zero-no-unit (inr e) = pos-ne-negsuc 0 0 e
+
+    go : Dec (d ≤ length signs) → d ≤ length signs
+    go (yes h) = h
+    go (no h) =
+        absurd (zero-no-unit (subst IsUnit (List·getD-eq-default signs (pos 0) (omega arith)) (u (length signs) (omega arith))))
 
 -- A sign is 0.
 pub isZero-says : (s : ℤ) → Says (isZero s) (s ≡ pos 0)

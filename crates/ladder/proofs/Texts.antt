@@ -9,14 +9,15 @@ use native.Mathlib.Omega.{arith}
 use lib.ListN.{length, getD, length-append, length-map}
 use lib.Pow.{pow-lt, pow-add}
 use Rattle.ladder.specs.Lists.{joined}
+use Rattle.ladder.specs.Numbers.{longestText}
 use Rattle.ladder.specs.Plan.{Plan, startOrder, stepBits, answerRow}
 use Rattle.ladder.specs.PlanFile.{planIn}
 use Rattle.ladder.specs.Refusals.{_then_, refusing, listRefusal}
-use Rattle.ladder.specs.Listing.{digitsWithin, digitsOf, character, decimal, hexadecimal, spaced, line, planWord, startWord, valueWord, refusedWord, planLine, startLine, stepLine, valueLine, planText, refusedText, listingText, longestText}
+use Rattle.ladder.specs.Listing.{digitsWithin, digitsOf, character, decimal, hexadecimal, spaced, line, planWord, startWord, valueWord, refusedWord, planLine, startLine, stepLine, valueLine, planText, refusedText, listingText}
 use Rattle.ladder.proofs.Lists.{getD-map, length-joined-mono}
 use Rattle.ladder.proofs.Bits.{length-stepBits}
 use Rattle.ladder.proofs.Refusals.{Accepted, dim-is, len-is, order-is, answer-is, trailer-is, distance-is, big-is}
-use Rattle.ladder.proofs.Chains.{unpack-chain, list-chain}
+use Rattle.ladder.proofs.Chains.{read-chain, unpack-chain, list-chain}
 use Rattle.ladder.proofs.Operations.{list-none}
 use Rattle.ladder.proofs.Demand2.{answer-wide, answer-bound}
 use Rattle.ladder.proofs.Lengths.{start-long}
@@ -214,18 +215,18 @@ unfolding _then_
 then-most b zero n h g = g
 then-most b (suc m) n h g = h
 
--- No refusal of the listing has a number above 10.
-pub list-refusal-small : (file : List ℕ) → listRefusal file ≤ 10
+-- No refusal of the listing has more than two digits.
+pub list-refusal-small : (file : List ℕ) → listRefusal file ≤ 99
 list-refusal-small file =
     let p = planIn file in
-    rw (list-chain file, unpack-chain file)
-    (then-most 10 _ _ (at-most 10 _ 10 (big-is file) (omega arith))
-    (then-most 10 _ _ (at-most 10 _ 9 (trailer-is file) (omega arith))
-    (then-most 10 _ _ (at-most 10 _ 1 (dim-is (p .d)) (omega arith))
-    (then-most 10 _ _ (at-most 10 _ 2 (len-is (p .l)) (omega arith))
-    (then-most 10 _ _ (at-most 10 _ 9 (distance-is file) (omega arith))
-    (then-most 10 _ _ (at-most 10 _ 5 (order-is (p .d) (p .start)) (omega arith))
-    (at-most 10 _ 6 (answer-is (p .d) (p .answer)) (omega arith))))))))
+    rw (list-chain file, unpack-chain file, read-chain p)
+    (then-most 99 _ _ (at-most 99 _ 10 (big-is file) (omega arith))
+    (then-most 99 _ _ (at-most 99 _ 9 (trailer-is file) (omega arith))
+    (then-most 99 _ _ (at-most 99 _ 1 (dim-is (p .d)) (omega arith))
+    (then-most 99 _ _ (at-most 99 _ 2 (len-is (p .l)) (omega arith))
+    (then-most 99 _ _ (at-most 99 _ 9 (distance-is file) (omega arith))
+    (then-most 99 _ _ (at-most 99 _ 5 (order-is (p .d) (p .start)) (omega arith))
+    (at-most 99 _ 6 (answer-is (p .d) (p .answer)) (omega arith))))))))
 
 -- The listing of any bytes.
 pub listing-fits : (file : List ℕ) → length (listingText file) ≤ longestText

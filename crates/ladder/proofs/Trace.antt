@@ -8,13 +8,13 @@ use native.Mathlib.Omega.{arith}
 use lib.ListN.{length, length-map, length-append}
 use Rattle.ladder.specs.Lists.{joined, ones}
 use Rattle.ladder.specs.Numbers.{traceLength}
-use Rattle.ladder.specs.Matrix.{Matrix, row, Pair, pairsFrom, additions}
+use Rattle.ladder.specs.Matrix.{Matrix, Pair, pairsFrom, additions}
 use Rattle.ladder.specs.Plan.{Plan, matrixIn, stepBits}
-use Rattle.ladder.specs.Trace.{difference, Entry, operations, entryOf, block, blockIn, entriesIn, signedByte, entryBytes, traceBytes, doublings, additionCount}
+use Rattle.ladder.specs.Trace.{vectorOf, Entry, operations, entryOf, block, blockIn, entriesIn, signedByte, entryBytes, traceBytes, doublings, additionCount}
 use Rattle.ladder.proofs.Lists.{same-self, same-other, length-joined}
 use Rattle.ladder.proofs.Step.{length-additions}
 use Rattle.ladder.proofs.Bits.{length-stepBits}
-use Rattle.ladder.proofs.Vectors.{length-difference}
+use Rattle.ladder.proofs.Vectors.{length-vector}
 
 -- ---- counts
 
@@ -91,12 +91,12 @@ length-entries : (d : ℕ) (B : Matrix) (l : List Pair) → length (traceBytes (
 unfolding traceBytes flatten entryBytes entryOf
 length-entries d B [] = sym (zero-mul (d + 2))
 length-entries d B (q ∷ l) =
-    let v = difference d (row B (q .y)) (row B (q .x)) in
+    let v = vectorOf d B q in
     omega (
       arith,
       length-append (map signedByte v) (traceBytes (map (entryOf d B) l)),
       length-map v signedByte,
-      length-difference d (row B (q .y)) (row B (q .x)),
+      length-vector d B q,
       length-entries d B l,
       suc-mul (length l) (d + 2),
     )

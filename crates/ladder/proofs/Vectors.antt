@@ -1,7 +1,7 @@
--- The rows of an addition differ by the signs of the columns between them, so by a vector of -1, 0 and 1 that is not all zero;
--- and from one operation to the next one column's sign is filled in.
+-- Two rows of a state matrix differ by the signs of the columns that stand between them, so by a vector of -1, 0 and 1 that is not
+-- all zero; and from one operation of a step to the next one column's sign is filled in.
 -- Assumes nothing.
-use Prim.Native.Nat.{ℕ, suc, _-_, _≤_, _<_}
+use Prim.Native.Nat.{ℕ, zero, suc, _-_, _≤_, _<_}
 use mathlib.Core.Path.{_≡_, refl, sym, ap, ap₂, subst, _∙_}
 use mathlib.Core.Logic.{_≢_, _⊎_, inl, inr, ⊎-elim}
 use mathlib.Core.Bool.{Bool, true, false, not, cond}
@@ -12,13 +12,14 @@ use lib.Dec.{T, ltb, ltb→lt, nltb→le}
 use lib.IntN.{ℤ, pos, negsuc, subℕ}
 use lib.ListN.{length, getD, set, length-set, List·getD-eq-default}
 use lib.Seq.{ext-getD, getD-set-same, getD-set-other}
-use Rattle.ladder.specs.Matrix.{Row, Matrix, row, entry, signOf, stepOrder, IsUnit, IsSmall}
-use Rattle.ladder.specs.Trace.{difference}
+use Rattle.ladder.specs.Lists.{ones}
+use Rattle.ladder.specs.Matrix.{Matrix, entry, StateMatrix, signOf, signsOf, Pair, additions, stepOrder, IsUnit, IsSmall}
+use Rattle.ladder.specs.Trace.{difference, vectorOf, operations}
 use Rattle.ladder.proofs.Lists.{length-tabulate, getD-tabulate}
-use Rattle.ladder.proofs.Step.{onesTo-le, onesTo-between, onesTo-all, onesTo-one, onesTo-zero, rowX, rowY, rowX-inside, rowY-inside, stepOrder-one, stepOrder-zero}
+use Rattle.ladder.proofs.Step.{onesTo-le, onesTo-between, onesTo-all, onesTo-one, onesTo-zero, rowX, rowY, rowY-inside, additions-x, additions-y, stepOrder-one, stepOrder-zero, noPair}
 use Rattle.ladder.proofs.Order.{place-of, place-once}
-use Rattle.ladder.proofs.Stairs.{Stairs, new-order}
-use Rattle.ladder.proofs.Signs.{sign-up, sign-down}
+use Rattle.ladder.proofs.Stairs.{stairs}
+use Rattle.ladder.proofs.Signs.{sign-up, sign-down, getD-signsOf}
 
 -- ---- differences of numbers
 
@@ -44,172 +45,189 @@ sub-sign : (e o : ℕ) → (o ≡ suc e) ⊎ (e ≡ suc o) → subℕ o e ≡ si
 sub-sign e o (inl p) = sub-le o e (omega arith) ∙ ap pos (omega arith) ∙ sym (sign-up e o p)
 sub-sign e o (inr p) = sub-lt o e (omega arith) ∙ ap negsuc (omega arith) ∙ sym (sign-down e o p)
 
--- ---- the vector, column by column
+-- ---- the vector of any two rows
 
-pub length-difference : (d : ℕ) (v u : Row) → length (difference d v u) ≡ d
-unfolding difference
-length-difference d v u = length-tabulate d (λ j. subℕ (getD v j 0) (getD u j 0))
+pub length-vector : (d : ℕ) (B : Matrix) (p : Pair) → length (vectorOf d B p) ≡ d
+unfolding vectorOf difference
+length-vector d B p = length-tabulate d (λ j. subℕ (entry B (p .y) j) (entry B (p .x) j))
 
-pub difference-at : (d : ℕ) (v u : Row) (j : ℕ) → j < d → getD (difference d v u) j (pos 0) ≡ subℕ (getD v j 0) (getD u j 0)
-unfolding difference
-difference-at d v u j h = getD-tabulate d (λ i. subℕ (getD v i 0) (getD u i 0)) j (pos 0) h
+vector-at : (d : ℕ) (B : Matrix) (p : Pair) (j : ℕ) → j < d
+    → getD (vectorOf d B p) j (pos 0) ≡ subℕ (entry B (p .y) j) (entry B (p .x) j)
+unfolding vectorOf difference
+vector-at d B p j h = getD-tabulate d (λ i. subℕ (entry B (p .y) i) (entry B (p .x) i)) j (pos 0) h
 
-module _ {d : ℕ} {B : Matrix} {S : List ℕ} (C : Stairs d B S) (x y : ℕ) (up : x ≤ y) (inside : y ≤ d) where
-  -- A column that stands between rows x and y has its sign in the vector ..
-  pub vector-between : (k : ℕ) → k < d → x ≤ k → k < y
-      → getD (difference d (row B y) (row B x)) (getD S k 0) (pos 0) ≡ signOf (entry B 0 (getD S k 0)) (entry B d (getD S k 0))
-  vector-between k h p q =
+-- A doubling's vector is all zero, of any matrix.
+pub vector-doubling : (d : ℕ) (B : Matrix) (i j : ℕ) → j < d → getD (vectorOf d B (record { x = i; y = i })) j (pos 0) ≡ pos 0
+vector-doubling d B i j h = vector-at d B (record { x = i; y = i }) j h ∙ sub-same (entry B i j) (entry B i j) refl
+
+-- ---- the vector of two rows of a state matrix
+
+module _ {d : ℕ} {B : Matrix} {S : List ℕ} (M : StateMatrix d B S) (p : Pair) (up : p .x ≤ p .y) (inside : p .y ≤ d) where
+  -- A column whose place lies between the two rows has its sign in the vector ..
+  pub vector-between : (k : ℕ) → p .x ≤ k → k < p .y
+      → getD (vectorOf d B p) (getD S k 0) (pos 0) ≡ getD (signsOf d B) (getD S k 0) (pos 0)
+  vector-between k above below =
+      let h : k < d = omega arith in
       let j = getD S k 0 in
-      difference-at d (row B y) (row B x) j (C .order .inside k h)
-      ∙ ap₂ subℕ (C .stair k h .lower y q inside) (C .stair k h .upper x p)
-      ∙ sub-sign (entry B 0 j) (entry B d j) (C .apart j (C .order .inside k h))
+      let column = M .order .inside k h in
+      vector-at d B p j column
+      ∙ ap₂ subℕ (stairs M .stair k h .lower (p .y) below inside) (stairs M .stair k h .upper (p .x) above)
+      ∙ sub-sign (entry B 0 j) (entry B d j) (stairs M .apart j column)
+      ∙ sym (getD-signsOf d B j column)
 
-  -- .. and any other has 0.
-  pub vector-above : (k : ℕ) → k < d → k < x → getD (difference d (row B y) (row B x)) (getD S k 0) (pos 0) ≡ pos 0
-  vector-above k h p =
-      difference-at d (row B y) (row B x) (getD S k 0) (C .order .inside k h)
-      ∙ sub-same (entry B y (getD S k 0)) (entry B x (getD S k 0))
-      (C .stair k h .lower y (omega arith) inside ∙ sym (C .stair k h .lower x p (omega arith)))
+  -- .. and one whose place lies above both or below both has 0.
+  pub vector-above : (k : ℕ) → k < p .x → getD (vectorOf d B p) (getD S k 0) (pos 0) ≡ pos 0
+  vector-above k h =
+      let stair = stairs M .stair k (omega arith) in
+      vector-at d B p (getD S k 0) (M .order .inside k (omega arith))
+      ∙ sub-same (entry B (p .y) (getD S k 0)) (entry B (p .x) (getD S k 0))
+      (stair .lower (p .y) (omega arith) inside ∙ sym (stair .lower (p .x) h (omega arith)))
 
-  pub vector-below : (k : ℕ) → k < d → y ≤ k → getD (difference d (row B y) (row B x)) (getD S k 0) (pos 0) ≡ pos 0
-  vector-below k h p =
-      difference-at d (row B y) (row B x) (getD S k 0) (C .order .inside k h)
-      ∙ sub-same (entry B y (getD S k 0)) (entry B x (getD S k 0))
-      (C .stair k h .upper y p ∙ sym (C .stair k h .upper x (omega arith)))
+  pub vector-below : (k : ℕ) → p .y ≤ k → k < d → getD (vectorOf d B p) (getD S k 0) (pos 0) ≡ pos 0
+  vector-below k h b =
+      vector-at d B p (getD S k 0) (M .order .inside k b)
+      ∙ sub-same (entry B (p .y) (getD S k 0)) (entry B (p .x) (getD S k 0))
+      (stairs M .stair k b .upper (p .y) h ∙ sym (stairs M .stair k b .upper (p .x) (omega arith)))
 
-  sign-unit : (j : ℕ) → j < d → IsUnit (signOf (entry B 0 j) (entry B d j))
-  sign-unit j h =
-      ⊎-elim (λ p. inl (sign-up (entry B 0 j) (entry B d j) p)) (λ p. inr (sign-down (entry B 0 j) (entry B d j) p)) (C .apart j h)
+  between-unit : (k : ℕ) → p .x ≤ k → k < p .y → IsUnit (getD (vectorOf d B p) (getD S k 0) (pos 0))
+  between-unit k above below =
+      let j = getD S k 0 in
+      let column = M .order .inside k (omega arith) in
+      subst IsUnit (sym (vector-between k above below ∙ getD-signsOf d B j column))
+      (⊎-elim
+      (λ q. inl (sign-up (entry B 0 j) (entry B d j) q))
+      (λ q. inr (sign-down (entry B 0 j) (entry B d j) q))
+      (stairs M .apart j column))
 
   -- The vector's coefficients are -1, 0 and 1 ..
-  pub vector-small : (j : ℕ) → IsSmall (getD (difference d (row B y) (row B x)) j (pos 0))
+  pub vector-small : (j : ℕ) → IsSmall (getD (vectorOf d B p) j (pos 0))
   vector-small j = go (decLe (suc j) d)
     where
-      at : (k : ℕ) → k < d → Dec (x ≤ k) → Dec (suc k ≤ y)
-          → IsSmall (getD (difference d (row B y) (row B x)) (getD S k 0) (pos 0))
-      at k h (yes p) (yes q) = inr (subst IsUnit (sym (vector-between k h p q)) (sign-unit (getD S k 0) (C .order .inside k h)))
-      at k h (yes p) (no q) = inl (vector-below k h (omega arith))
-      at k h (no p) q = inl (vector-above k h (omega arith))
+      at : (k : ℕ) → k < d → Dec (p .x ≤ k) → Dec (suc k ≤ p .y) → IsSmall (getD (vectorOf d B p) (getD S k 0) (pos 0))
+      at k h (yes a) (yes b) = inr (between-unit k a b)
+      at k h (yes a) (no b) = inl (vector-below k (omega arith) h)
+      at k h (no a) b = inl (vector-above k (omega arith))
 
-      go : Dec (j < d) → IsSmall (getD (difference d (row B y) (row B x)) j (pos 0))
+      go : Dec (j < d) → IsSmall (getD (vectorOf d B p) j (pos 0))
       go (yes h) =
-          let p = place-of (C .order) j h in
-          subst (λ c. IsSmall (getD (difference d (row B y) (row B x)) c (pos 0))) (p .2)
-          (at (p .0) (p .1) (decLe x (p .0)) (decLe (suc (p .0)) y))
-      go (no h) =
-          inl (List·getD-eq-default (difference d (row B y) (row B x)) (pos 0) (omega (arith, length-difference d (row B y) (row B x))))
+          let q = place-of (M .order) j h in
+          subst (λ c. IsSmall (getD (vectorOf d B p) c (pos 0))) (q .2) (at (q .0) (q .1) (decLe (p .x) (q .0)) (decLe (suc (q .0)) (p .y)))
+      go (no h) = inl (List·getD-eq-default (vectorOf d B p) (pos 0) (omega (arith, length-vector d B p)))
 
   -- .. and where the two rows are two, not all of them are 0.
-  pub vector-not-zero : x < y → (j : ℕ) × (j < d) × IsUnit (getD (difference d (row B y) (row B x)) j (pos 0))
-  vector-not-zero h =
-      let q : x < d = omega arith in (
-        getD S x 0,
-        C .order .inside x q,
-        subst IsUnit (sym (vector-between x q (omega arith) h)) (sign-unit (getD S x 0) (C .order .inside x q)),
-      )
+  pub vector-not-zero : p .x < p .y → (j : ℕ) × (j < d) × IsUnit (getD (vectorOf d B p) j (pos 0))
+  vector-not-zero h = (getD S (p .x) 0, M .order .inside (p .x) (omega arith), between-unit (p .x) (omega arith) h)
 
 -- ---- the rows of a step's operations
 
--- An addition adds two rows, the first above the second.
-pub rows-apart : (r : List ℕ) (i : ℕ) → i < length r → rowX r (suc i) < rowY r (suc i)
-rows-apart r i h =
-    omega (arith, onesTo-le r (suc i), onesTo-all r, onesTo-between r (suc i) (length r) h .0)
+-- Operation i of a step makes new row i.
+abbrev pub operation : List ℕ → ℕ → Pair
+operation r i = getD (operations r) i noPair
 
--- From one operation to the next the rows part by one place, that of the column at place i of the new order: so the vector of
--- addition i is the one before it with that column's sign filled in.
-module _ {d : ℕ} {B : Matrix} {S : List ℕ} (C : Stairs d B S) (r : List ℕ) (long : length r ≡ d) where
-  abbrev vector : ℕ → List ℤ
-  vector i = difference d (row B (rowY r i)) (row B (rowX r i))
+operation-x : (r : List ℕ) (i : ℕ) → i ≤ length r → operation r i .x ≡ rowX r i
+unfolding operations ones
+operation-x r zero h = omega arith
+operation-x r (suc i) h = additions-x r i noPair h
 
-  in-order : (i : ℕ) → rowX r i ≤ rowY r i
-  in-order i = omega arith
+operation-y : (r : List ℕ) (i : ℕ) → i ≤ length r → operation r i .y ≡ rowY r i
+unfolding operations ones
+operation-y r zero h = omega arith
+operation-y r (suc i) h = additions-y r i noPair h
 
-  -- The place that is added to the range between the rows.
-  added-place : (i : ℕ) → i < d → (k : ℕ) × (k < d) × (getD S k 0 ≡ getD (stepOrder S r) i 0)
-      × (rowX r (suc i) ≤ k) × (k < rowY r (suc i)) × ((m : ℕ) → m ≢ k → rowX r (suc i) ≤ m → m < rowY r (suc i) → (rowX r i ≤ m) × (m < rowY r i))
-  added-place i h = go (ℕ-discrete (getD r i 0) 0)
+-- An addition adds two rows of the matrix, the first above the second.
+pub addition-apart : (r : List ℕ) (i : ℕ) → i < length r → getD (additions r) i noPair .x < getD (additions r) i noPair .y
+addition-apart r i h =
+    omega (
+      arith,
+      additions-x r i noPair h,
+      additions-y r i noPair h,
+      onesTo-le r (suc i),
+      onesTo-all r,
+      onesTo-between r (suc i) (length r) h .0,
+    )
+
+pub addition-inside : (r : List ℕ) (i : ℕ) → i < length r → getD (additions r) i noPair .y ≤ length r
+addition-inside r i h = omega (arith, additions-y r i noPair h, rowY-inside r (suc i) h)
+
+-- ---- from operation to operation
+
+module _ {d : ℕ} {B : Matrix} {S : List ℕ} (M : StateMatrix d B S) where
+  -- Where the rows of q have those of p between them and one place more, k, the column there has its sign filled in.
+  vector-wider : (p q : Pair) → p .x ≤ p .y → q .y ≤ d → q .x ≤ p .x → p .y ≤ q .y → (k : ℕ) → q .x ≤ k → k < q .y
+      → ((m : ℕ) → m ≢ k → q .x ≤ m → m < q .y → (p .x ≤ m) × (m < p .y))
+      → vectorOf d B q ≡ set (vectorOf d B p) (getD S k 0) (getD (signsOf d B) (getD S k 0) (pos 0))
+  vector-wider p q up inside left right k above below others =
+      ext-getD (pos 0) (vectorOf d B q) (set (vectorOf d B p) j s)
+      (length-vector d B q ∙ sym (length-set (vectorOf d B p) j s ∙ length-vector d B p))
+      (λ c l.
+      let m = place-of (M .order) c (omega (arith, length-vector d B q)) in
+      subst (λ (c : ℕ). Agree c) (m .2) (at (m .0) (m .1) (ℕ-discrete (m .0) k) (decLe (q .x) (m .0)) (decLe (suc (m .0)) (q .y))))
+    where
+      j : ℕ
+      j = getD S k 0
+
+      s : ℤ
+      s = getD (signsOf d B) j (pos 0)
+
+      Agree : ℕ → Type 0
+      Agree c = getD (vectorOf d B q) c (pos 0) ≡ getD (set (vectorOf d B p) j s) c (pos 0)
+
+      kept : (m : ℕ) → m < d → m ≢ k → getD (vectorOf d B p) (getD S m 0) (pos 0) ≡ getD (set (vectorOf d B p) j s) (getD S m 0) (pos 0)
+      kept m b n =
+          sym (getD-set-other (vectorOf d B p) j (getD S m 0) s (pos 0) (λ e. n (place-once (M .order) m k b (omega arith) e)))
+
+      at : (m : ℕ) → m < d → Dec (m ≡ k) → Dec (q .x ≤ m) → Dec (suc m ≤ q .y) → Agree (getD S m 0)
+      at m b (yes e) x y =
+          subst (λ n. Agree (getD S n 0)) (sym e)
+          (vector-between M q (omega arith) inside k above below
+          ∙ sym (getD-set-same (vectorOf d B p) j s (pos 0) (omega (arith, length-vector d B p, M .order .inside k (omega arith)))))
+      at m b (no n) (yes x) (yes y) =
+          vector-between M q (omega arith) inside m x y
+          ∙ sym (vector-between M p up (omega arith) m (others m n x y .0) (others m n x y .1))
+          ∙ kept m b n
+      at m b (no n) (yes x) (no y) =
+          vector-below M q (omega arith) inside m (omega arith) b
+          ∙ sym (vector-below M p up (omega arith) m (omega arith) b)
+          ∙ kept m b n
+      at m b (no n) (no x) y =
+          vector-above M q (omega arith) inside m (omega arith)
+          ∙ sym (vector-above M p up (omega arith) m (omega arith))
+          ∙ kept m b n
+
+  -- From one operation of a step to the next the rows part by one place, that of the column at place i of the new order: so the
+  -- vector of operation i+1 is that of operation i with this column's sign filled in.
+  pub vector-filled : (r : List ℕ) → length r ≡ d → (i : ℕ) → i < d
+      → vectorOf d B (operation r (suc i))
+      ≡ set (vectorOf d B (operation r i)) (getD (stepOrder S r) i 0) (getD (signsOf d B) (getD (stepOrder S r) i 0) (pos 0))
+  vector-filled r long i h = go (ℕ-discrete (getD r i 0) 0)
     where
       b : i < length r
       b = omega arith
 
-      go : Dec (getD r i 0 ≡ 0) → (k : ℕ) × (k < d) × (getD S k 0 ≡ getD (stepOrder S r) i 0)
-          × (rowX r (suc i) ≤ k) × (k < rowY r (suc i)) × ((m : ℕ) → m ≢ k → rowX r (suc i) ≤ m → m < rowY r (suc i) → (rowX r i ≤ m) × (m < rowY r i))
+      in-order : operation r i .x ≤ operation r i .y
+      in-order = omega (arith, operation-x r i (omega arith), operation-y r i (omega arith))
+
+      inside : operation r (suc i) .y ≤ d
+      inside = omega (arith, operation-y r (suc i) b, rowY-inside r (suc i) b)
+
+      Filled : ℕ → Type 0
+      Filled j = vectorOf d B (operation r (suc i)) ≡ set (vectorOf d B (operation r i)) j (getD (signsOf d B) j (pos 0))
+
+      go : Dec (getD r i 0 ≡ 0) → Filled (getD (stepOrder S r) i 0)
       go (yes e) =
-          let z = onesTo-zero r i b e in
-          let s = onesTo-le r i in (
-            rowY r i,
-            omega (arith, rowY-inside r (suc i) b),
-            sym (stepOrder-zero S r i b e),
-            omega arith,
-            omega arith,
-            λ m n p q. (omega arith, omega arith),
-          )
+          let ones-stay = onesTo-zero r i b e in
+          let x : operation r (suc i) .x ≡ operation r i .x = omega (arith, operation-x r i (omega arith), operation-x r (suc i) b) in
+          let y : operation r (suc i) .y ≡ suc (operation r i .y) =
+          omega (arith, operation-y r i (omega arith), operation-y r (suc i) b, onesTo-le r i) in
+          subst (λ (j : ℕ). Filled j) (ap (λ k. getD S k 0) (operation-y r i (omega arith)) ∙ sym (stepOrder-zero S r i b e))
+          (vector-wider (operation r i) (operation r (suc i)) in-order inside (omega arith) (omega arith) (operation r i .y)
+          (omega (arith, in-order)) (omega arith) (λ m n p q. (omega arith, omega arith)))
       go (no e) =
-          let o = onesTo-one r i b (omega arith) in
-          let most = onesTo-between r (suc i) (length r) b .0 in (
-            rowX r (suc i),
-            omega (arith, onesTo-all r, rowX-inside r i),
-            sym (stepOrder-one S r i b (omega arith)),
-            omega arith,
-            rows-apart r i b,
-            λ m n p q. (omega (arith, onesTo-all r), omega arith),
-          )
-
-  pub vector-next : (i : ℕ) → i < d
-      → vector (suc i)
-      ≡ set (vector i) (getD (stepOrder S r) i 0)
-      (signOf (entry B 0 (getD (stepOrder S r) i 0)) (entry B d (getD (stepOrder S r) i 0)))
-  vector-next i h =
-      ext-getD (pos 0) (vector (suc i)) (set (vector i) j s)
-      (length-difference d (row B (rowY r (suc i))) (row B (rowX r (suc i)))
-      ∙ sym (length-set (vector i) j s ∙ length-difference d (row B (rowY r i)) (row B (rowX r i))))
-      (λ c l.
-      let q : c < d = omega (arith, length-difference d (row B (rowY r (suc i))) (row B (rowX r (suc i)))) in
-      let p = place-of (C .order) c q in
-      subst (λ e. getD (vector (suc i)) e (pos 0) ≡ getD (set (vector i) j s) e (pos 0)) (p .2)
-      (at (p .0) (p .1) (ℕ-discrete (p .0) (added-place i h .0)) (decLe (rowX r (suc i)) (p .0)) (decLe (suc (p .0)) (rowY r (suc i)))))
-    where
-      j : ℕ
-      j = getD (stepOrder S r) i 0
-
-      s : ℤ
-      s = signOf (entry B 0 j) (entry B d j)
-
-      last : rowY r (suc i) ≤ d
-      last = omega (arith, rowY-inside r (suc i) (omega arith))
-
-      until : rowY r i ≤ d
-      until = omega (arith, rowY-inside r i (omega arith))
-
-      Agree : ℕ → Type 0
-      Agree m = getD (vector (suc i)) (getD S m 0) (pos 0) ≡ getD (set (vector i) j s) (getD S m 0) (pos 0)
-
-      kept : (m : ℕ) → m < d → m ≢ added-place i h .0 → getD (set (vector i) j s) (getD S m 0) (pos 0) ≡ getD (vector i) (getD S m 0) (pos 0)
-      kept m b n =
-          getD-set-other (vector i) j (getD S m 0) s (pos 0)
-          (λ e. n (place-once (C .order) m (added-place i h .0) b (added-place i h .1) (e ∙ sym (added-place i h .2))))
-
-      at : (m : ℕ) → m < d → Dec (m ≡ added-place i h .0) → Dec (rowX r (suc i) ≤ m) → Dec (suc m ≤ rowY r (suc i)) → Agree m
-      at m b (yes e) x y =
-          let k = added-place i h in
-          subst (λ (n : ℕ). Agree n) (sym e)
-          (vector-between C (rowX r (suc i)) (rowY r (suc i)) (in-order (suc i)) last (k .0) (k .1) (k .3) (k .4)
-          ∙ ap (λ c. signOf (entry B 0 c) (entry B d c)) (k .2)
-          ∙ sym (getD-set-same (vector i) j s (pos 0)
-          (omega (arith, length-difference d (row B (rowY r i)) (row B (rowX r i)), new-order C r long .inside i h)))
-          ∙ ap (λ c. getD (set (vector i) j s) c (pos 0)) (sym (k .2)))
-      at m b (no n) (yes x) (yes y) =
-          let w = added-place i h .5 m n x y in
-          vector-between C (rowX r (suc i)) (rowY r (suc i)) (in-order (suc i)) last m b x y
-          ∙ sym (vector-between C (rowX r i) (rowY r i) (in-order i) until m b (w .0) (w .1))
-          ∙ sym (kept m b n)
-      at m b (no n) (yes x) (no y) =
-          vector-below C (rowX r (suc i)) (rowY r (suc i)) (in-order (suc i)) last m b (omega arith)
-          ∙ sym (vector-below C (rowX r i) (rowY r i) (in-order i) until m b
-          (omega (arith, onesTo-between r i (suc i) (omega arith) .1, onesTo-le r i, onesTo-le r (suc i))))
-          ∙ sym (kept m b n)
-      at m b (no n) (no x) y =
-          vector-above C (rowX r (suc i)) (rowY r (suc i)) (in-order (suc i)) last m b (omega arith)
-          ∙ sym (vector-above C (rowX r i) (rowY r i) (in-order i) until m b
-          (omega (arith, onesTo-between r i (suc i) (omega arith) .0)))
-          ∙ sym (kept m b n)
+          let ones-grow = onesTo-one r i b (omega arith) in
+          let most = onesTo-between r (suc i) (length r) b .0 in
+          let x : operation r i .x ≡ suc (operation r (suc i) .x) =
+          omega (arith, operation-x r i (omega arith), operation-x r (suc i) b, onesTo-all r) in
+          let y : operation r (suc i) .y ≡ operation r i .y = omega (arith, operation-y r i (omega arith), operation-y r (suc i) b) in
+          subst (λ (j : ℕ). Filled j) (ap (λ k. getD S k 0) (operation-x r (suc i) b) ∙ sym (stepOrder-one S r i b (omega arith)))
+          (vector-wider (operation r i) (operation r (suc i)) in-order inside (omega arith) (omega arith) (operation r (suc i) .x)
+          (omega arith) (omega (arith, in-order)) (λ m n p q. (omega arith, omega arith)))

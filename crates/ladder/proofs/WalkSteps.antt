@@ -16,7 +16,9 @@ use Rattle.ladder.specs.Refusals.{walkOrder, stepRefusal}
 use Rattle.ladder.proofs.Lists.{length-tabulate}
 use Rattle.ladder.proofs.Order.{arrangement-step}
 use Rattle.ladder.proofs.Signs.{length-turn}
-use Rattle.ladder.proofs.Walk.{pred-suc, walk-places}
+use Rattle.ladder.proofs.Step.{length-stepOrder}
+use Rattle.ladder.proofs.Walk.{pred-suc, length-bitsOf, walk-places}
+use Rattle.ladder.proofs.Tests.{units-long}
 use Rattle.ladder.proofs.Refusals.{walkOrder-none}
 use Rattle.ladder.proofs.Operations.{step-none}
 
@@ -54,11 +56,8 @@ pub walk-in-order : {d : ℕ} {S : List ℕ} (signs : List ℤ) → d ≤ 8 → 
     → walkOrder (walkOf d S signs) ≡ 0
 unfolding walkOf
 walk-in-order {d} {S} signs h a e u =
-    let eight = walk-places d S signs h (a .long) e in
     let long : length (map suc S) ≡ d = length-map S suc ∙ a .long in
     walkOrder-none (walkOf d S signs) .1 (record {
-      eightPlaces = eight .0;
-      eightSigns = eight .1;
       places =
           subst (OrderOk d) (sym (take-at (map suc S) _ d long))
           (record { columns = rw (pred-suc S) a; counted = ap (map suc) (sym (pred-suc S)) });
@@ -83,11 +82,21 @@ pub walk-steps-on : (w : Walk) (n : ℕ) → stepRefusal w n ≡ 0 → walkOrder
 unfolding stepWalk stepSigns orderOf walkSigns bitsOf
 walk-steps-on w n e =
     let ok = step-none w n .0 e in
-    let long = length-take-le (w .d) (w .signs) (omega (arith, ok .walk .eightSigns, ok .dimension .1)) in
+    let long = length-take-le (w .d) (w .signs) (units-long (w .d) (w .signs) (ok .walk .units)) in
     let bits = bitsOf (w .d) n in
     walk-in-order _ (ok .dimension .1) (arrangement-step (ok .walk .places .columns) bits (length-tabulate (w .d) _))
     (length-turn (walkSigns w) _ bits ∙ long)
     (turn-units (walkSigns w) _ bits long (λ j h. rw getD-take (ok .walk .units j h)))
+
+-- .. of eight places and eight signs ..
+pub walk-steps-eight : (w : Walk) (n : ℕ) → stepRefusal w n ≡ 0
+    → (length (stepWalk w n .order) ≡ 8) × (length (stepWalk w n .signs) ≡ 8)
+unfolding stepWalk stepSigns orderOf walkSigns
+walk-steps-eight w n e =
+    let ok = step-none w n .0 e in
+    let bits = bitsOf (w .d) n in
+    walk-places (w .d) _ _ (ok .dimension .1) (length-stepOrder (orderOf w) bits ∙ length-bitsOf (w .d) n)
+    (length-turn (walkSigns w) _ bits ∙ length-take-le (w .d) (w .signs) (units-long (w .d) (w .signs) (ok .walk .units)))
 
 -- .. so it can be stepped again, with any bits.
 pub walk-steps-again : (w : Walk) (n m : ℕ) → stepRefusal w n ≡ 0 → m < 2 ^ w .d → stepRefusal (stepWalk w n) m ≡ 0

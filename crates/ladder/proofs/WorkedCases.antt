@@ -1,23 +1,27 @@
--- The cases that the rules mark P: one list, one definition of what it is for a case to hold, one claim.
+-- The cases that the rules mark P, then Table 4 of the source, and the plans of 2 and of 1 that both have 2 in row 1 (`EndsIn` of
+-- Demand2 cites them): one list, one definition of what it is for a case to hold, one claim.
 -- Columns and rows of the cases count from 1 where they are bytes or an answer row, as the rules print them.
 -- Assumes nothing.
-use Prim.Native.Nat.{ℕ, _+_, _^_}
+use Prim.Native.Nat.{ℕ, zero, suc, pred, _+_, _^_}
 use mathlib.Core.Path.{_≡_, refl}
-use mathlib.Core.List.{List, [], _∷_, flatten}
+use mathlib.Core.List.{List, [], _∷_, map, flatten}
+use lib.ListN.{getD}
 use Rattle.ladder.specs.Lists.{tabulate, joined, same, count, ones, odds, all}
 use Rattle.ladder.specs.Numbers.{numberOf, bitAt, byteOf, bytesFor, packBits, bitsLength, bitsAt}
 use Rattle.ladder.specs.Matrix.{Matrix, addRows, doubleRow, bump, rowsFrom, startMatrix, pairsFrom, additions, step, orderFrom, stepOrder, matrixAfter, orderAfter}
-use Rattle.ladder.specs.Plan.{startOrder, matrixIn, orderIn, lastMatrix, endOrder, answerRow}
+use Rattle.ladder.specs.Plan.{Plan, planLent, startOrder, matrixIn, orderIn, lastMatrix, endOrder, answerRow}
 use Rattle.ladder.specs.Encoding.{scalarBit, xor, dealt, deal, picked, passed, rearrange, orderToGo, encodedStart, encodedBits, encodeWith, houseOrder, encode}
-use Rattle.ladder.specs.Trace.{difference, operations, entryOf, block, blockIn, entriesIn, signedByte, entryBytes, traceBytes, doublings, additionCount}
+use Rattle.ladder.specs.Trace.{difference, vectorOf, operations, entryOf, block, blockIn, entriesIn, signedByte, entryBytes, traceBytes, doublings, additionCount}
 use Rattle.ladder.specs.Registers.{stepRegisters, registersAfter, modulus, sumOf, combination, timesSigned, signedSum, plainRule, differenceAdd, differenceRule, startFrom, startRegisters, plainRegisters, differenceRegisters, answerRegister}
 use Rattle.ladder.specs.PlanFile.{mark, trailerSize, bodyLength, trailerByte, dIn, answerIn, lIn, distanceIn, markIn, bodyPlace, bodyIn, planIn, twoBytes, fourBytes, fileOf}
-use Rattle.ladder.specs.Refusals.{_then_, unless, within, dim, len, eachOnce, isArrangement, order, answer, sameNumbers, trailer, distance, planRefusal, unpackRefusal, refusing, big, listRefusal}
+use Rattle.ladder.specs.Refusals.{_then_, unless, within, dim, len, eachOnce, isArrangement, order, answer, sameNumbers, trailer, distance, readRefusal, planRefusal, unpackRefusal, refusing, big, listRefusal}
 use Rattle.ladder.specs.Listing.{digitsWithin, digitsOf, character, decimal, hexadecimal, spaced, line, planWord, startWord, valueWord, planLine, startLine, stepLine, valueLine, planText, listingText}
 
 pub data Case : Type 0 where
   -- d, l and scalars; start order, bytes and answer row; last rows
   encoding : ℕ → ℕ → List ℕ → List ℕ → List ℕ → ℕ → Matrix → Case
+  -- d, l, scalars and end order; start order, bytes and answer row; last rows
+  ending : ℕ → ℕ → List ℕ → List ℕ → List ℕ → List ℕ → ℕ → Matrix → Case
   -- a plan file's bytes; its listing
   listing : List ℕ → List ℕ → Case
   -- d, l and scalars; the trace's bytes, doublings and additions
@@ -31,11 +35,15 @@ pub data Case : Type 0 where
   -- a matrix, bits, and the matrix after the step
   stepping : Matrix → List ℕ → Matrix → Case
 
+-- The plan of scalars is as it is written down, has these last rows, and decodes to the scalars.
+abbrev pub Encodes : Plan → List ℕ → Plan → Matrix → Type 0
+Encodes p scalars written last = (p ≡ written) × (lastMatrix p ≡ last) × (answerRow p ≡ scalars)
+
 abbrev pub Holds : Case → Type 0
 Holds (encoding d l scalars start bits answer last) =
-    (encode d l scalars ≡ record { d = d; l = l; start = start; bits = bits; answer = answer })
-    × (lastMatrix (encode d l scalars) ≡ last)
-    × (answerRow (encode d l scalars) ≡ scalars)
+    Encodes (encode d l scalars) scalars (planLent d l start bits answer) last
+Holds (ending d l scalars order start bits answer last) =
+    Encodes (encodeWith d l scalars (map pred order)) scalars (planLent d l start bits answer) last
 Holds (listing file text) = listingText file ≡ text
 Holds (tracing d l scalars bytes doubled added) =
     (traceBytes (entriesIn (encode d l scalars)) ≡ bytes)
@@ -90,10 +98,13 @@ cases =
     ((2 ∷ 4 ∷ 2 ∷ 2 ∷ []) ∷ (2 ∷ 4 ∷ 2 ∷ 3 ∷ []) ∷ (3 ∷ 4 ∷ 2 ∷ 3 ∷ []) ∷ (3 ∷ 3 ∷ 2 ∷ 3 ∷ []) ∷ (3 ∷ 3 ∷ 3 ∷ 3 ∷ []) ∷ [])
     (1 ∷ 0 ∷ 0 ∷ 1 ∷ [])
     ((6 ∷ 8 ∷ 4 ∷ 6 ∷ []) ∷ (5 ∷ 8 ∷ 4 ∷ 6 ∷ []) ∷ (5 ∷ 7 ∷ 4 ∷ 6 ∷ []) ∷ (5 ∷ 7 ∷ 5 ∷ 6 ∷ []) ∷ (5 ∷ 7 ∷ 5 ∷ 5 ∷ []) ∷ [])
+    ∷ ending 2 7 (73 ∷ 59 ∷ []) (2 ∷ 1 ∷ []) (1 ∷ 2 ∷ []) (0x72 ∷ 0xd4 ∷ []) 3 ((74 ∷ 60 ∷ []) ∷ (74 ∷ 59 ∷ []) ∷ (73 ∷ 59 ∷ []) ∷ [])
+    ∷ encoding 1 2 (2 ∷ []) (1 ∷ []) (0xc0 ∷ []) 1 ((2 ∷ []) ∷ (3 ∷ []) ∷ [])
+    ∷ encoding 1 2 (1 ∷ []) (1 ∷ []) (0x40 ∷ []) 2 ((2 ∷ []) ∷ (1 ∷ []) ∷ [])
     ∷ []
 
 pub cases-hold : AllHold cases
-unfolding tabulate joined same count ones odds all numberOf bitAt byteOf bytesFor packBits bitsLength addRows doubleRow bump rowsFrom startMatrix pairsFrom additions step orderFrom stepOrder matrixAfter orderAfter startOrder bitsAt matrixIn orderIn lastMatrix endOrder answerRow scalarBit xor dealt deal picked passed rearrange orderToGo encodedStart encodedBits encodeWith houseOrder encode difference operations entryOf block blockIn entriesIn signedByte entryBytes traceBytes doublings additionCount stepRegisters registersAfter modulus sumOf combination timesSigned signedSum plainRule differenceAdd differenceRule startFrom startRegisters plainRegisters differenceRegisters answerRegister flatten mark trailerSize bodyLength trailerByte dIn answerIn lIn distanceIn markIn bodyPlace bodyIn planIn twoBytes fourBytes fileOf _then_ unless within dim len eachOnce isArrangement order answer sameNumbers trailer distance planRefusal unpackRefusal refusing big listRefusal digitsWithin digitsOf character decimal hexadecimal spaced line planWord startWord valueWord planLine startLine stepLine valueLine planText listingText
+unfolding tabulate joined same count ones odds all numberOf bitAt byteOf bytesFor packBits bitsLength addRows doubleRow bump rowsFrom startMatrix pairsFrom additions step orderFrom stepOrder matrixAfter orderAfter startOrder bitsAt matrixIn orderIn lastMatrix endOrder answerRow scalarBit xor dealt deal picked passed rearrange orderToGo encodedStart encodedBits encodeWith houseOrder encode difference vectorOf operations entryOf block blockIn entriesIn signedByte entryBytes traceBytes doublings additionCount stepRegisters registersAfter modulus sumOf combination timesSigned signedSum plainRule differenceAdd differenceRule startFrom startRegisters plainRegisters differenceRegisters answerRegister flatten mark trailerSize bodyLength trailerByte dIn answerIn lIn distanceIn markIn bodyPlace bodyIn planIn twoBytes fourBytes fileOf _then_ unless within dim len eachOnce isArrangement order answer sameNumbers trailer distance readRefusal planRefusal unpackRefusal refusing big listRefusal digitsWithin digitsOf character decimal hexadecimal spaced line planWord startWord valueWord planLine startLine stepLine valueLine planText listingText
 cases-hold = (
   (refl, refl, refl),
   (
@@ -114,7 +125,7 @@ cases-hold = (
                   (refl, refl, refl),
                   (
                     (refl, refl, refl),
-                    ((refl, refl, refl), ((refl, refl, refl), (refl, ((refl, refl, refl), (refl, (refl, tt)))))),
+                    ((refl, refl, refl), ((refl, refl, refl), (refl, ((refl, refl, refl), (refl, (refl, ((refl, refl, refl), ((refl, refl, refl), ((refl, refl, refl), tt))))))))),
                   ),
                 ),
               ),
@@ -126,8 +137,12 @@ cases-hold = (
   ),
 )
 
--- Table 4 of the source is the plan of 73 and 59 with end order 2 1 (here 1 0): the same start order and answer, other bits.
-pub table-four : encodeWith 2 7 (73 ∷ 59 ∷ []) (1 ∷ 0 ∷ [])
-    ≡ record { d = 2; l = 7; start = 1 ∷ 2 ∷ []; bits = 0x72 ∷ 0xd4 ∷ []; answer = 3 }
-unfolding tabulate joined odds byteOf bytesFor packBits scalarBit xor dealt deal picked passed rearrange orderToGo encodedStart encodedBits encodeWith
-table-four = refl
+-- So each of them holds, by its place in the list.
+all-at : (cs : List Case) → AllHold cs → (i : ℕ) → Holds (getD cs i (wording [] 0))
+unfolding numberOf
+all-at [] t i = refl
+all-at (c ∷ cs) t zero = t .0
+all-at (c ∷ cs) t (suc i) = all-at cs (t .1) i
+
+pub case-holds : (i : ℕ) → Holds (getD cases i (wording [] 0))
+case-holds = all-at cases cases-hold

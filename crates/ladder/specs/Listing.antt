@@ -88,7 +88,3 @@ refusedText n = line refusedWord (decimal n ∷ [])
 -- The listing of any bytes.
 unfoldable pub listingText : List ℕ → List ℕ
 listingText file = refusing (listRefusal file) (refusedText (listRefusal file)) (planText (planIn file))
-
--- The length of the longest listing: d 8, l 576, every entry 2^576.
-unfoldable pub longestText : ℕ
-longestText = 8589

@@ -87,3 +87,7 @@ bitsLength d l = bytesFor (l * d)
 -- The bytes of a trace: l * (d + 1) * (d + 2), at most 51,840.
 unfoldable pub traceLength : ℕ → ℕ → ℕ
 traceLength d l = l * (d + 1) * (d + 2)
+
+-- The bytes of a buffer for a listing: the longest text, of d 8, l 576 and entries of 2^576.
+unfoldable pub longestText : ℕ
+longestText = 8589

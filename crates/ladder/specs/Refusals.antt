@@ -6,9 +6,9 @@ use mathlib.Core.Bool.{Bool, true, false, cond, _&&_}
 use mathlib.Core.List.{List, [], _∷_}
 use lib.Dec.{eqb, leb, ltb}
 use lib.IntN.{ℤ, pos, negsuc}
-use lib.ListN.{length, take, drop}
-use Rattle.ladder.specs.Lists.{count, all}
-use Rattle.ladder.specs.Numbers.{numbersOf, scalarWords, scalarsLength, valuesLength, startLength, elementsLength, registersLength, bitsLength, traceLength}
+use lib.ListN.{length, getD, take, drop}
+use Rattle.ladder.specs.Lists.{tabulate, count, all}
+use Rattle.ladder.specs.Numbers.{numbersOf, scalarWords, scalarsLength, valuesLength, startLength, elementsLength, registersLength, bitsLength, traceLength, longestText}
 use Rattle.ladder.specs.Plan.{Plan}
 use Rattle.ladder.specs.Walk.{Walk}
 use Rattle.ladder.specs.PlanFile.{mark, trailerSize, bodyLength, fileLength, dIn, lIn, distanceIn, markIn, planIn}
@@ -111,15 +111,15 @@ unfoldable pub isZero : ℤ → Bool
 isZero (pos n) = eqb n 0
 isZero (negsuc n) = false
 
--- A walk state has eight places and eight signs. (A call's arrays always have; lists could be shorter.)
-unfoldable pub isEight : Walk → Bool
-isEight w = eqb (length (w .order)) 8 && eqb (length (w .signs)) 8
+-- The first d signs of a list, 0 for each that the list lacks, are 1 or -1.
+unfoldable pub allUnits : ℕ → List ℤ → Bool
+allUnits d signs = all isUnit (tabulate d (λ j. getD signs j (pos 0)))
 
 -- .. in a walk state also a sign other than 1 and -1 at a place 1..d, or a non-zero order or sign past place d.
 unfoldable pub walkOrder : Walk → ℕ
 walkOrder w =
     unless
-    (isEight w && isArrangement (w .d) (take (w .d) (w .order)) && all isUnit (take (w .d) (w .signs))
+    (isArrangement (w .d) (take (w .d) (w .order)) && allUnits (w .d) (w .signs)
     && all (eqb 0) (drop (w .d) (w .order)) && all isZero (drop (w .d) (w .signs)))
     ORDER
 
@@ -160,13 +160,21 @@ big file = unless (leb (length file) 4096) BIG
 
 -- ---- each operation
 
--- A plan that is read: 1, 2, 3, 5, 6. What stands at number 3 is handed in: it covers every buffer lent to the call.
+-- What a plan that is read must be past its shapes, whether it is lent or stands in a file: 5, 6.
+unfoldable pub readRefusal : Plan → ℕ
+readRefusal p = order (p .d) (p .start) then answer (p .d) (p .answer)
+
+-- A plan that is read: 1, 2, then what stands at number 3, which is handed in, then 5, 6.
 unfoldable pub planRefusal : Plan → ℕ → ℕ
-planRefusal p shapes = dim (p .d) then len (p .l) then shapes then order (p .d) (p .start) then answer (p .d) (p .answer)
+planRefusal p shapes = dim (p .d) then len (p .l) then shapes then readRefusal p
 
 -- The shape of a plan's own buffers.
 unfoldable pub planShape : Plan → ℕ
 planShape p = shape (p .start) (startLength (p .d)) then shape (p .bits) (bitsLength (p .d) (p .l))
+
+-- A loose plan, lent as a start order and bits: 1, 2, 3, 5, 6. Number 3 covers these and, handed in, the call's other buffers.
+unfoldable pub looseRefusal : Plan → ℕ → ℕ
+looseRefusal p others = planRefusal p (planShape p then others)
 
 -- The d scalars in lent words.
 unfoldable pub scalarsIn : ℕ → ℕ → List ℕ → List ℕ
@@ -181,12 +189,12 @@ encodeRefusal d l scalars start bits =
 
 -- Decode: 1, 2, 3, 5, 6.
 unfoldable pub decodeRefusal : Plan → List ℕ → ℕ
-decodeRefusal p values = planRefusal p (planShape p then shape values (valuesLength (p .d) (p .l)))
+decodeRefusal p values = looseRefusal p (shape values (valuesLength (p .d) (p .l)))
 
 -- Check: 1, 2, 3, 5, 6, 4.
 unfoldable pub checkRefusal : Plan → List ℕ → ℕ
 checkRefusal p scalars =
-    planRefusal p (planShape p then shape scalars (scalarsLength (p .d) (p .l)))
+    looseRefusal p (shape scalars (scalarsLength (p .d) (p .l)))
     then scalar (p .l) (scalarsIn (p .d) (p .l) scalars)
 
 -- Step: 1, 5, 3.
@@ -195,22 +203,26 @@ stepRefusal w n = dim (w .d) then walkOrder w then stepShape (w .d) n
 
 -- Trace: 1, 2, 3, 5, 6.
 unfoldable pub traceRefusal : Plan → List ℕ → ℕ
-traceRefusal p trace = planRefusal p (planShape p then shape trace (traceLength (p .d) (p .l)))
+traceRefusal p trace = looseRefusal p (shape trace (traceLength (p .d) (p .l)))
 
 -- Plain run and difference run: 1, 2, 3, 5, 6, 7, 8.
 unfoldable pub runRefusal : Plan → ℕ → List ℕ → List ℕ → ℕ
 runRefusal p m elements registers =
-    planRefusal p (planShape p then shape elements (elementsLength (p .d)) then shape registers (registersLength (p .d)))
+    looseRefusal p (shape elements (elementsLength (p .d)) then shape registers (registersLength (p .d)))
     then tooLarge m then element m elements
 
 -- Pack: 1, 2, 3, 5, 6.
 unfoldable pub packRefusal : Plan → List ℕ → ℕ
-packRefusal p file = planRefusal p (planShape p then shape file (fileLength (p .d) (p .l)))
+packRefusal p file = looseRefusal p (shape file (fileLength (p .d) (p .l)))
 
 -- Unpack: 9 for short or mark; 1; 2; 9 for the distance; 5; 6. Where a loose plan has number 3, a file has its distance.
 unfoldable pub unpackRefusal : List ℕ → ℕ
 unpackRefusal file = trailer file then planRefusal (planIn file) (distance file)
 
--- The listing: 10, then as unpack.
+-- The listing program: 10, then as unpack.
 unfoldable pub listRefusal : List ℕ → ℕ
 listRefusal file = big file then unpackRefusal file
+
+-- The call that lists into a lent buffer: 10, 3, then as unpack.
+unfoldable pub listingRefusal : List ℕ → List ℕ → ℕ
+listingRefusal file text = big file then shape text longestText then unpackRefusal file

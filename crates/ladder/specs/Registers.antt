@@ -5,9 +5,9 @@ use mathlib.Core.List.{List, [], _∷_, map}
 use lib.IntN.{ℤ, pos, negsuc}
 use lib.ListN.{getD}
 use Rattle.ladder.specs.Lists.{ones}
-use Rattle.ladder.specs.Matrix.{Row, Matrix, row, matrixAfter, additions}
+use Rattle.ladder.specs.Matrix.{Row, Matrix, matrixAfter, additions}
 use Rattle.ladder.specs.Plan.{Plan, startOrder, stepBits}
-use Rattle.ladder.specs.Trace.{difference}
+use Rattle.ladder.specs.Trace.{vectorOf}
 
 -- ---- registers over any kind of value
 
@@ -22,9 +22,7 @@ pub record Rule (A : Type 0) : Type 0 where
 unfoldable pub stepRegisters : {A : Type 0} → Rule A → ℕ → Matrix → List A → List ℕ → List A
 stepRegisters rule d B regs r =
     rule .double (getD regs (ones r) (rule .none))
-    ∷ map
-    (λ p. rule .add (getD regs (p .x) (rule .none)) (getD regs (p .y) (rule .none)) (difference d (row B (p .y)) (row B (p .x))))
-    (additions r)
+    ∷ map (λ p. rule .add (getD regs (p .x) (rule .none)) (getD regs (p .y) (rule .none)) (vectorOf d B p)) (additions r)
 
 -- The registers after n steps from a start order and start registers.
 unfoldable pub registersAfter : {A : Type 0} → Rule A → ℕ → List ℕ → (ℕ → List ℕ) → List A → ℕ → List A

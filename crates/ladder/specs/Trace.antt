@@ -12,6 +12,10 @@ use Rattle.ladder.specs.Plan.{Plan, matrixIn, stepBits}
 unfoldable pub difference : ℕ → Row → Row → List ℤ
 difference d v u = tabulate d (λ j. subℕ (getD v j 0) (getD u j 0))
 
+-- Row y minus row x of a matrix: the difference vector of an operation.
+unfoldable pub vectorOf : ℕ → Matrix → Pair → List ℤ
+vectorOf d B p = difference d (row B (p .y)) (row B (p .x))
+
 -- An entry: the rows x and y that are added (the rules' rows x+1 and y+1), and row y minus row x.
 pub record Entry : Type 0 where
   pub x : ℕ
@@ -24,7 +28,7 @@ operations r = record { x = ones r; y = ones r } ∷ additions r
 
 -- The entry of one operation, from the matrix B before the step.
 unfoldable pub entryOf : ℕ → Matrix → Pair → Entry
-entryOf d B p = record { x = p .x; y = p .y; vector = difference d (row B (p .y)) (row B (p .x)) }
+entryOf d B p = record { x = p .x; y = p .y; vector = vectorOf d B p }
 
 -- The entries of a step with bits r from the matrix B before it.
 unfoldable pub block : ℕ → Matrix → List ℕ → List Entry

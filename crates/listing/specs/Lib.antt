@@ -1,3 +1,2 @@
--- `Promise` is what the listing promises. `Inner` holds what only inner contracts need: no promise rests on it.
+-- What the listing promises.
 pub mod Promise
-pub mod Inner

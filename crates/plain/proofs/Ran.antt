@@ -12,7 +12,7 @@ use Rattle.ladder.specs.Plan.{Plan, startOrder, lastMatrix}
 use Rattle.ladder.specs.Registers.{combination, startRegisters, plainRule, registersAfter, plainRegisters}
 use Rattle.ladder.proofs.Operations.{RunOk}
 use Rattle.ladder.proofs.Demand2.{registers-in}
-use Rattle.run.proofs.Ran.{first-is, first-below}
+use Rattle.registers.proofs.Ran.{first-is, first-below}
 use Rattle.plain.specs.Inner.{PlainSteps}
 
 module _ {p : Plan} {m : ℕ} {elements registers : List ℕ} (ok : RunOk p m elements registers)

@@ -8,7 +8,7 @@ use native.Mathlib.Numerals.{add-one}
 use native.Mathlib.Omega.{arith}
 use lib.ListN.{length, getD, take, drop, set, length-set, length-map}
 use lib.Seq.{append-snoc, take-all, take-suc-set}
-use Rattle.run.proofs.ByModulus.{modulus-positive, below-modulus}
+use Rattle.registers.proofs.ByModulus.{modulus-positive, below-modulus}
 use Rattle.ladder.specs.Lists.{ones}
 use Rattle.ladder.specs.Matrix.{Pair, Matrix, matrixAfter, pairsFrom, additions}
 use Rattle.ladder.specs.Numbers.{bitsAt}
@@ -17,9 +17,9 @@ use Rattle.ladder.specs.Trace.{operations}
 use Rattle.ladder.specs.Walk.{bitsOf}
 use Rattle.ladder.proofs.Step.{length-additions}
 use Rattle.ladder.proofs.Walk.{length-bitsOf}
-use Rattle.walk.specs.Inner.ReadBits.{ReadBits}
-use Rattle.walk.proofs.Additions.{pairs-next}
-use Rattle.walk.proofs.StepBits.{bit-below, bits-left, no-bits-left, ones-left, ones-room}
+use Rattle.bits.specs.ReadBits.{ReadBits}
+use Rattle.bits.proofs.Additions.{pairs-next}
+use Rattle.bits.proofs.StepBits.{bit-below, bits-left, no-bits-left, ones-left, ones-room}
 use Rattle.plain.specs.Inner.{PlainStep, PlainSteps, plainSum}
 
 -- ---- one step

@@ -7,7 +7,7 @@ use lib.ListN.{length, getD}
 use Rattle.ladder.specs.Matrix.{Pair}
 use Rattle.ladder.specs.Numbers.{bitsLength}
 use Rattle.ladder.specs.Registers.{modulus}
-use Rattle.run.specs.Inner.{Elements}
+use Rattle.registers.specs.Inner.{Elements}
 
 -- The register that a pair of rows makes of the old ones.
 unfoldable pub plainSum : ℕ → List ℕ → Pair → ℕ

@@ -1,12 +1,9 @@
 // The public call `plain_run`.
-use crate::steps::plain_steps;
+use crate::accepted::plain_accepted;
 use refuse::OK;
-use run::answer::Ran;
-use run::answer::finish;
-use run::answer::refused;
-use run::refusal::run_refusal;
-use run::start::start_registers;
-use run::store::store;
+use registers::refused;
+use registers::run_refusal;
+use run::Ran;
 ghost use Rattle.ladder.specs.Plan.{planLent};
 ghost use Rattle.run.specs.Promise.{PlainPromise};
 
@@ -27,10 +24,5 @@ pub fn plain_run(
     if refusal != OK {
         return refused(refusal);
     }
-    let first = start_registers(m, start, elements);
-    let n = d as usize + 1;
-    let mut other = [0u64; 9];
-    store(&first[..n], registers);
-    plain_steps(m, d as usize, l as usize, bits, registers, &mut other[..n]);
-    finish(registers, d, l, row)
+    plain_accepted(d, l, start, bits, row, m, elements, registers)
 }

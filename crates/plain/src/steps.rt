@@ -1,9 +1,9 @@
 // The plain run: each new register is the sum of two old ones.
-use run::modular::add;
-use run::store::store;
-use walk::bits::step_bits;
-use walk::number::bit;
-use walk::number::ones_in;
+use bits::bit;
+use bits::ones_in;
+use bits::step_bits;
+use lent::store;
+use registers::add;
 ghost use mathlib.Core.Path.{_≡_};
 ghost use mathlib.Core.List.{List, map};
 ghost use Prim.Native.Nat.{ℕ, suc};

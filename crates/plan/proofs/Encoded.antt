@@ -10,7 +10,7 @@ use lib.ListN.{length, getD, drop, length-drop}
 use lib.Seq.{length-take-le}
 use Rattle.ladder.specs.Lists.{tabulate}
 use Rattle.ladder.specs.Numbers.{numberOf, numbersOf, wordsOf, wordsOfAll, scalarWords, valueWords, valuesLength, scalarsLength, elementsLength, registersLength}
-use Rattle.ladder.specs.Plan.{Plan, answerRow, valuesIn}
+use Rattle.ladder.specs.Plan.{Plan, planLent, answerRow, valuesIn}
 use Rattle.ladder.specs.Registers.{combination}
 use Rattle.ladder.specs.Refusals.{scalarsIn}
 use Rattle.ladder.proofs.Lists.{map-tabulate, tabulate-same}
@@ -20,7 +20,7 @@ use Rattle.ladder.proofs.Operations.{EncodeOk, RunOk}
 use Rattle.ladder.proofs.Demand2.{decode-words}
 use Rattle.encode.specs.Promise.{EncodePromise}
 use Rattle.encode.specs.declared.call.Encoded.{Encoded}
-use Rattle.encode.proofs.Promised.{written, encode-plan, encode-plan-ok, encode-decodes}
+use Rattle.encode.proofs.Promised.{encode-plan, encode-plan-ok, encode-decodes}
 use Rattle.decode.specs.Promise.{DecodePromise}
 use Rattle.decode.proofs.Promised.{decode-accepted}
 use Rattle.checking.specs.Promise.{CheckPromise}
@@ -34,7 +34,7 @@ use Rattle.run.proofs.Promised.{run-accepted, run-answer}
 module _ {d l : ℕ} {scalars start bits : List ℕ} {e : Encoded} {startAfter bitsAfter : List ℕ}
     (promise : EncodePromise d l scalars start bits e startAfter bitsAfter) (ok : EncodeOk d l scalars start bits) where
   abbrev plan : Plan
-  plan = written d l e startAfter bitsAfter
+  plan = planLent d l startAfter bitsAfter (e .row)
 
   -- Decode of what encode wrote refuses nothing and gives the scalars, as numbers ..
   pub decode-encoded : (values valuesAfter : List ℕ) (r : ℕ) → length values ≡ valuesLength d l → DecodePromise plan values r valuesAfter
@@ -89,17 +89,17 @@ module _ {d l : ℕ} {scalars start bits : List ℕ} {e : Encoded} {startAfter b
 -- combination of the elements by the scalars.
 pub run-encoded : {d l : ℕ} {scalars start bits : List ℕ} {e : Encoded} {startAfter bitsAfter : List ℕ}
     → EncodePromise d l scalars start bits e startAfter bitsAfter → EncodeOk d l scalars start bits
-    → {m : ℕ} {elements registers : List ℕ} {r : Ran} {registersAfter : List ℕ}
-    → PlainPromise (written d l e startAfter bitsAfter) m elements registers r registersAfter
+    → (m : ℕ) (elements : List ℕ) {registers : List ℕ} {r : Ran} {registersAfter : List ℕ}
+    → PlainPromise (planLent d l startAfter bitsAfter (e .row)) m elements registers r registersAfter
     → length elements ≡ elementsLength d → length registers ≡ registersLength d → m ≤ 2 ^ 63
     → (m ≡ 0) ⊎ ((j : ℕ) → j < length elements → getD elements j 0 < m)
     → (r .refusal ≡ 0) × (r .answer ≡ combination m elements (scalarsIn d l scalars))
-run-encoded {d} {l} {scalars} {e = e} {startAfter} {bitsAfter} encoded eok {m} {elements} {registers} promise many room high below =
-    let ok : RunOk (written d l e startAfter bitsAfter) m elements registers = record {
+run-encoded {d} {l} {scalars} {e = e} {startAfter} {bitsAfter} encoded eok m elements {registers} promise many room high below =
+    let ok : RunOk (planLent d l startAfter bitsAfter (e .row)) m elements registers = record {
       plan = encode-plan-ok encoded eok;
       elementsLong = many;
       registersLong = room;
       modulus = high;
       below = below;
     } in
-    (run-accepted promise ok, run-answer promise ok ∙ ap (combination m elements) (encode-decodes encoded eok))
+    (run-accepted m elements promise ok, run-answer m elements promise ok ∙ ap (combination m elements) (encode-decodes encoded eok))

@@ -10,7 +10,8 @@ use Rattle.ladder.specs.Plan.{Plan, lastMatrix, matrixIn, valuesIn}
 use Rattle.ladder.specs.PlanFile.{planIn}
 use Rattle.ladder.specs.Trace.{traceBytes, doublings, additionCount}
 use Rattle.ladder.specs.Registers.{combination, differenceRegisters, answerRegister}
-use Rattle.ladder.specs.Refusals.{_then_, refusing, shape, tooLarge, element, planRefusal, planShape, decodeRefusal, traceRefusal, runRefusal}
+use Rattle.ladder.specs.Refusals.{_then_, refusing, shape, tooLarge, element, readRefusal, planRefusal, planShape, looseRefusal, decodeRefusal, traceRefusal, runRefusal}
+use Rattle.ladder.proofs.Refusals.{accept-read}
 use Rattle.ladder.proofs.SamePlan.{SamePlan, same-matrix, same-answer, same-trace, same-difference}
 use Rattle.ladder.proofs.Operations.{UnpackOk}
 use Rattle.ladder.proofs.AcceptedFiles.{held-shape}
@@ -32,11 +33,17 @@ last-same : (p q : Plan) → SamePlan p q → lastMatrix p ≡ lastMatrix q
 unfolding lastMatrix
 last-same p q e = same-matrix p q e (p .l) (omega arith) ∙ ap (matrixIn q) (e .l)
 
-module _ {p q : Plan} (e : SamePlan p q) (shapes : planShape p ≡ planShape q) where
+module _ {p q : Plan} (e : SamePlan p q) (shapes : planShape p ≡ planShape q) (reads : readRefusal p ≡ readRefusal q) where
   -- They are refused alike, whatever else is lent ..
-  refused-alike : (third : ℕ → ℕ → ℕ) → planRefusal p (planShape p then third (p .d) (p .l)) ≡ planRefusal q (planShape q then third (q .d) (q .l))
-  unfolding planRefusal
-  refused-alike third = rw (shapes, e .d, e .l, e .start, e .answer)
+  refused-alike : (others : ℕ → ℕ → ℕ) → looseRefusal p (others (p .d) (p .l)) ≡ looseRefusal q (others (q .d) (q .l))
+  unfolding looseRefusal planRefusal
+  refused-alike others = rw (shapes, reads, e .d, e .l)
+
+  run-refused-alike : (m : ℕ) (elements registers : List ℕ) → runRefusal p m elements registers ≡ runRefusal q m elements registers
+  unfolding runRefusal
+  run-refused-alike m elements registers =
+      ap (λ n. n then tooLarge m then element m elements)
+      (refused-alike (λ d l. shape elements (elementsLength d) then shape registers (registersLength d)))
 
   -- .. so what one promises the other does: of decode ..
   decode-moved : {values : List ℕ} {r : ℕ} {valuesAfter : List ℕ} → DecodePromise q values r valuesAfter → DecodePromise p values r valuesAfter
@@ -59,14 +66,13 @@ module _ {p q : Plan} (e : SamePlan p q) (shapes : planShape p ≡ planShape q) 
       }
 
   -- .. and of a run.
-  run-moved : {m : ℕ} {elements registers wanted wanted' : List ℕ} {r : Ran} {registersAfter : List ℕ} → wanted ≡ wanted'
-      → RunPromise q m elements registers wanted' r registersAfter → RunPromise p m elements registers wanted r registersAfter
-  unfolding runRefusal answerRegister
-  run-moved {m} {elements} {registers} {r = r} w x =
+  run-moved : {refusal refusal' : ℕ} {registers wanted wanted' : List ℕ} {r : Ran} {registersAfter : List ℕ} → refusal ≡ refusal' → wanted ≡ wanted'
+      → RunPromise q refusal' registers wanted' r registersAfter → RunPromise p refusal registers wanted r registersAfter
+  unfolding answerRegister
+  run-moved {registers = registers} {r = r} n w x =
       let same = sym (same-trace p q e) in
-      let alike = refused-alike (λ d l. shape elements (elementsLength d) then shape registers (registersLength d)) in
       record {
-        refusal-is = x .refusal-is ∙ sym (ap (λ n. n then tooLarge m then element m elements) alike);
+        refusal-is = x .refusal-is ∙ sym n;
         answer-is = x .answer-is ∙ ap₂ (λ i regs. refusing (r .refusal) 0 (getD regs (pred i) 0)) (sym (e .answer)) (sym w);
         doublings-are = x .doublings-are ∙ ap (λ es. refusing (r .refusal) 0 (doublings es)) same;
         additions-are = x .additions-are ∙ ap (λ es. refusing (r .refusal) 0 (additionCount es)) same;
@@ -110,28 +116,33 @@ module _ {f g : List ℕ} {u v : Unpacked} (answered : UnpackPromise f u) (answe
   shapes : planShape (planIn f) ≡ planShape (planIn g)
   shapes = held-shape f asked ∙ sym (held-shape g asked')
 
+  reads : readRefusal (planIn f) ≡ readRefusal (planIn g)
+  reads = accept-read (planIn f) (asked .plan) ∙ sym (accept-read (planIn g) (asked' .plan))
+
   -- .. so decode answers and writes the same ..
   pub files-decode : {values : List ℕ} {r s : ℕ} {valuesAfter valuesOther : List ℕ} → DecodePromise (planIn f) values r valuesAfter
       → DecodePromise (planIn g) values s valuesOther → (r ≡ s) × (valuesAfter ≡ valuesOther)
-  files-decode x y = decode-unique x (decode-moved files-plan shapes y)
+  files-decode x y = decode-unique x (decode-moved files-plan shapes reads y)
 
   -- .. trace does ..
   pub files-trace : {trace : List ℕ} {r s : Traced} {traceAfter traceOther : List ℕ} → TracePromise (planIn f) trace r traceAfter
       → TracePromise (planIn g) trace s traceOther → (r ≡ s) × (traceAfter ≡ traceOther)
-  files-trace x y = trace-unique x (trace-moved files-plan shapes y)
+  files-trace x y = trace-unique x (trace-moved files-plan shapes reads y)
 
   -- .. the plain run does ..
-  pub files-plain : {m : ℕ} {elements registers : List ℕ} {r s : Ran} {registersAfter registersOther : List ℕ}
+  pub files-plain : (m : ℕ) (elements : List ℕ) {registers : List ℕ} {r s : Ran} {registersAfter registersOther : List ℕ}
       → PlainPromise (planIn f) m elements registers r registersAfter → PlainPromise (planIn g) m elements registers s registersOther
       → (r ≡ s) × (registersAfter ≡ registersOther)
-  files-plain {m} {elements} x y =
-      plain-unique x (run-moved files-plan shapes (ap (map (combination m elements)) (last-same (planIn f) (planIn g) files-plan)) y)
+  files-plain m elements {registers} x y =
+      plain-unique m elements x
+      (run-moved files-plan shapes reads (run-refused-alike files-plan shapes reads m elements registers)
+      (ap (map (combination m elements)) (last-same (planIn f) (planIn g) files-plan)) y)
 
   -- .. and the difference run does.
-  pub files-difference : {m : ℕ} {elements registers : List ℕ} {r s : Ran} {registersAfter registersOther : List ℕ}
+  pub files-difference : (m : ℕ) (elements : List ℕ) {registers : List ℕ} {r s : Ran} {registersAfter registersOther : List ℕ}
       → DifferencePromise (planIn f) m elements registers r registersAfter → DifferencePromise (planIn g) m elements registers s registersOther
       → (r ≡ s) × (registersAfter ≡ registersOther)
-  files-difference {m} {elements} x y =
-      difference-unique x
-      (run-moved files-plan shapes
+  files-difference m elements {registers} x y =
+      difference-unique m elements x
+      (run-moved files-plan shapes reads (run-refused-alike files-plan shapes reads m elements registers)
       (same-difference (planIn f) (planIn g) files-plan m elements (planIn f .l) (omega arith) ∙ ap (differenceRegisters (planIn g) m elements) (files-plan .l)) y)

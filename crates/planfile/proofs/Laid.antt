@@ -47,7 +47,7 @@ module _ (file start bits : List ℕ) (room : length start + length bits < lengt
       ∙ ap (λ k. (start ++ bits) ++ drop k file) (zero-add (length (start ++ bits)))
 
   -- .. the last byte is that of the bits ..
-  pub last-byte : getD (sets (sets file 0 start) (length start) bits) (length start + length bits - 1) 0 ≡ getD bits (length bits - 1) 0
+  last-byte : getD (sets (sets file 0 start) (length start) bits) (length start + length bits - 1) 0 ≡ getD bits (length bits - 1) 0
   last-byte =
       let place : length start + length bits - 1 ≡ length start + (length bits - 1) = omega arith in
       ap₂ (λ l k. getD l k 0) two-runs place
@@ -55,7 +55,7 @@ module _ (file start bits : List ℕ) (room : length start + length bits < lengt
       ∙ getD-append-add start bits (length bits - 1) 0
 
   -- .. and after a store there and a third run, all is written.
-  pub three-runs : (v : ℕ) (ws : List ℕ) → length start + length bits + length ws ≡ length file
+  three-runs : (v : ℕ) (ws : List ℕ) → length start + length bits + length ws ≡ length file
       → sets (set (sets (sets file 0 start) (length start) bits) (length start + length bits - 1) v) (length start + length bits) ws
       ≡ start ++ set bits (length bits - 1) v ++ ws
   three-runs v ws e =

@@ -1,5 +1,4 @@
 -- Laws of the plan file.
-pub mod Copied
 pub mod Marks
 pub mod Judged
 pub mod Clearing

@@ -1,15 +1,15 @@
 -- What the inner contracts of the plan file need.
 -- Assumes nothing.
-use Prim.Native.Nat.{ℕ, _+_, _-_, _≤_, _<_}
+use Prim.Native.Nat.{ℕ, _+_, _-_, _≤_}
 use mathlib.Core.Path.{_≡_}
 use mathlib.Core.Bool.{_&&_}
-use mathlib.Core.List.{List, []}
+use mathlib.Core.List.{List}
 use lib.Dec.{eqb, leb}
 use lib.ListN.{length, take, drop}
 use Rattle.ladder.specs.Numbers.{bitsLength}
-use Rattle.ladder.specs.PlanFile.{dIn, lIn, answerIn, distanceIn, markIn, fileLength}
-use Rattle.ladder.specs.Refusals.{unless, refusing, TRAILER, sameNumbers, unpackRefusal}
-use Rattle.refuse.specs.Inner.{sized}
+use Rattle.ladder.specs.Plan.{Plan, planLent}
+use Rattle.ladder.specs.PlanFile.{dIn, lIn, answerIn, distanceIn, markIn, bodyLength, fileLength}
+use Rattle.ladder.specs.Refusals.{unless, TRAILER, sameNumbers, unpackRefusal}
 use Rattle.planfile.specs.declared.trailer.Trailer.{Trailer}
 
 -- Four numbers are what the trailer of a file says.
@@ -18,28 +18,39 @@ pub record FieldsRead (file : List ℕ) (d row l distance : ℕ) : Type 0 where
   pub row-is : row ≡ answerIn file
   pub l-is : l ≡ lIn file
   pub distance-is : distance ≡ distanceIn file
-  pub d-byte : d < 256
-  pub distance-bytes : distance < 4294967296
 
 -- What reading a trailer of a size and a mark says: 9 for a shorter file or another mark, else its fields.
 pub record TrailerRead (file : List ℕ) (size : ℕ) (mark : List ℕ) (t : Trailer) : Type 0 where
   pub refusal : t .refusal ≡ unless (leb size (length file) && sameNumbers (markIn file) mark) TRAILER
   pub fields : t .refusal ≡ 0 → FieldsRead file (t .d) (t .row) (t .l) (t .distance)
 
--- Number 9 of a back distance; the bits are measured by a length that is 0 out of range.
-unfoldable pub distanceJudged : ℕ → ℕ → ℕ → ℕ → ℕ → ℕ
-distanceJudged d l distance size n =
-    unless (eqb distance (d + sized d l (bitsLength d l)) && leb (distance + size) n) TRAILER
+-- ---- what a trailer of a size tells of the file that it ends
 
--- Where the distance is not refused, the start order lies within the file.
-pub record Placed (t : Trailer) (size distance : ℕ) (file : List ℕ) : Type 0 where
-  pub long : distance ≡ 0 → t .distance + size ≤ length file
-  pub start : distance ≡ 0 → t .d ≤ t .distance
+-- Where the body begins ..
+unfoldable pub placeTold : Trailer → ℕ → List ℕ → ℕ
+placeTold t size file = length file - size - t .distance
 
--- The start order, or nothing where the distance is refused.
-unfoldable pub startJudged : Trailer → ℕ → ℕ → List ℕ → List ℕ
-startJudged t size distance file =
-    refusing distance [] (take (t .d) (drop (length file - size - t .distance) file))
+-- .. and the body.
+unfoldable pub bodyTold : Trailer → ℕ → List ℕ → List ℕ
+bodyTold t size file = take (t .distance) (drop (placeTold t size file) file)
+
+-- The plan.
+unfoldable pub planTold : Trailer → ℕ → List ℕ → Plan
+planTold t size file =
+    planLent (t .d) (t .l) (take (t .d) (bodyTold t size file)) (drop (t .d) (bodyTold t size file)) (t .row)
+
+-- Number 9 of the back distance.
+unfoldable pub distanceTold : Trailer → ℕ → List ℕ → ℕ
+distanceTold t size file =
+    unless (eqb (t .distance) (bodyLength (t .d) (t .l)) && leb (t .distance + size) (length file)) TRAILER
+
+-- The body, cut out of bytes that stand in memory from a block's offset on.
+pub record BodyCut (t : Trailer) (size : ℕ) (file : List ℕ) (place : ℕ × ℕ) (part : List ℕ) (partPlace : ℕ × ℕ) : Type 0 where
+  pub block-is : partPlace .0 ≡ place .0
+  pub offset-is : partPlace .1 ≡ place .1 + placeTold t size file
+  pub bytes-are : part ≡ bodyTold t size file
+
+-- ---- a whole file
 
 -- What judging a file says: its refusal, and the fields where there is none.
 pub record Judged (file : List ℕ) (t : Trailer) : Type 0 where

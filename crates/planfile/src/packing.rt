@@ -1,22 +1,15 @@
 // The public call `pack`: a plan written as a file, with nothing before its body.
-use crate::copy::copy;
 use crate::trailer::trailer_of;
+use judge::Beside;
+use judge::loose_refusal;
+use lent::copy;
 use refuse::OK;
 ghost use mathlib.Core.Path.{_≡_};
 ghost use Prim.Native.Nat.{_-_, _%_, _^_, _<_};
 ghost use Rattle.ladder.specs.Plan.{planLent};
 ghost use Rattle.ladder.specs.PlanFile.{fileOf};
-ghost use Rattle.ladder.specs.Refusals.{packRefusal};
 ghost use Rattle.planfile.specs.Inner.{Packable};
 ghost use Rattle.planfile.specs.Promise.{PackPromise};
-
-// The refusal of pack: 1, 2, 3, 5, 6, where 3 covers the start order, the bits and the file.
-fn pack_refusal(d: u64, l: u64, start: &[u8], bits: &[u8], row: u64, file: &[u8]) -> u64
-    ensures { λ r. ⌜ r ≡ packRefusal (planLent d l (now (start .entry)) (now (bits .entry)) row) (now (file .entry)) ⌝ }
-{
-    let room = refuse::shape(file.len(), refuse::file_length(d, l));
-    refuse::lent_plan(d, l, start, bits, row, room)
-}
 
 // A byte without its lowest n bits.
 fn cleared(byte: u8, n: usize) -> u8
@@ -40,11 +33,12 @@ fn write_file(d: usize, l: usize, start: &[u8], bits: &[u8], row: usize, file: &
     copy(&trailer, file, body);
 }
 
-// Writes a plan into a file of exactly d + ceil(l * d / 8) + 12 bytes. Answers the refusal; where there is one, the file is as it came.
+// Writes a plan into a file of exactly d + ceil(l * d / 8) + 12 bytes. Answers the refusal (1, 2, 3, 5, 6); where there is one, the file is
+// as it came.
 pub fn pack(d: u64, l: u64, start: &[u8], bits: &[u8], row: u64, file: &mut [u8]) -> u64
     ensures { λ r. ⌜ PackPromise (planLent d l (now (start .entry)) (now (bits .entry)) row) (now (file .entry)) r (now (file .exit)) ⌝ }
 {
-    let refusal = pack_refusal(d, l, start, bits, row, file);
+    let refusal = loose_refusal(d, l, start, bits, row, Beside::File(file.len()));
     if refusal != OK {
         return refusal;
     }

@@ -1,7 +1,8 @@
 // The public calls `unpack` and `body`: what a plan file says, and the part of it that is its body.
-use crate::judge::judge;
-use crate::trailer::TRAILER_SIZE;
+use crate::whole::body_part;
+use crate::whole::judged;
 use refuse::OK;
+use refuse::TRAILER_SIZE;
 ghost use Rattle.planfile.specs.Promise.{UnpackPromise, BodyPromise};
 
 // What unpack answers: the refusal, and d, l and the answer row, 0 where it refuses.
@@ -16,7 +17,7 @@ pub struct Unpacked {
 pub fn unpack(file: &[u8]) -> Unpacked
     ensures { λ r. ⌜ UnpackPromise (now (file .entry)) r ⌝ }
 {
-    let t = judge(file);
+    let t = judged(file);
     let refusal = t.refusal;
     if refusal != OK {
         return Unpacked {
@@ -39,11 +40,9 @@ pub fn unpack(file: &[u8]) -> Unpacked
 pub fn body(file: &[u8]) -> &[u8]
     ensures { λ part. ⌜ BodyPromise (now (file .entry)) (file .entry .ptr) (now part) (part .ptr) ⌝ }
 {
-    let t = judge(file);
+    let t = judged(file);
     if t.refusal != OK {
         return &file[..0];
     }
-    let to = file.len() - TRAILER_SIZE;
-    let from = to - t.distance as usize;
-    &file[from..to]
+    body_part(file, t, TRAILER_SIZE)
 }

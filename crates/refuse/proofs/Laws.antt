@@ -1,5 +1,4 @@
--- Laws of the table's tests, and that a length which is 0 out of range serves as well as the true one: out of range d or l is
--- refused first.
+-- Laws of the table's tests.
 -- Assumes nothing.
 use Prim.Native.Nat.{ℕ, zero, suc, _+_, _-_, _≤_, _<_}
 use mathlib.Core.Path.{_≡_, refl, sym, ap, ap₂, _∙_}
@@ -13,11 +12,10 @@ use lib.ListN.{length, getD, drop, drop-of-length-le}
 use lib.Seq.{drop-cons}
 use native.Mathlib.Numerals.{add-one}
 use Rattle.ladder.specs.Lists.{all, same, count}
-use Rattle.ladder.proofs.Tests.{says-true, and-says, within-says, then-first, then-next, then-assoc}
-use Rattle.ladder.specs.Numbers.{bitsLength, startLength}
-use Rattle.ladder.specs.Plan.{Plan, planLent}
-use Rattle.ladder.specs.Refusals.{_then_, unless, within, dim, len, order, answer, element, planRefusal, planShape, shape, eachOnce, isArrangement}
-use Rattle.refuse.specs.Inner.{inRange, sized, planRead, lentRefusal}
+use Rattle.ladder.proofs.Tests.{then-none, then-first, then-next, then-assoc}
+use Rattle.ladder.proofs.Refusals.{dim-none, len-none}
+use Rattle.ladder.specs.Refusals.{_then_, unless, within, dim, len, element, eachOnce, isArrangement}
+use Rattle.refuse.specs.Inner.{InRange}
 
 -- ---- two tests
 
@@ -55,58 +53,33 @@ pub unless-no : (test : Bool) (n : ℕ) → test ≡ false → unless test n ≡
 unfolding unless
 unless-no test n e = ap (λ t. cond t 0 n) e
 
--- What follows a refusal counts only where it is 0.
-pub then-same : (m n k : ℕ) → (m ≡ 0 → n ≡ k) → m then n ≡ m then k
-unfolding _then_
-then-same zero n k e = e refl
-then-same (suc m) n k e = refl
+-- ---- d and l
 
--- ---- lengths
-
-pub sized-yes : (d l n : ℕ) → inRange d l ≡ true → sized d l n ≡ n
-unfolding sized
-sized-yes d l n e = ap (λ t. cond t n 0) e
-
-pub sized-no : (d l n : ℕ) → inRange d l ≡ false → sized d l n ≡ 0
-unfolding sized
-sized-no d l n e = ap (λ t. cond t n 0) e
-
--- What a passed test of the range says.
-pub record InRange (d l : ℕ) : Type 0 where
-  pub dLow : 1 ≤ d
-  pub dHigh : d ≤ 8
-  pub lLow : 1 ≤ l
-  pub lHigh : l ≤ 576
-
-pub in-range : (d l : ℕ) → inRange d l ≡ true → InRange d l
-unfolding inRange
+-- Where neither is refused, both are in range.
+pub in-range : (d l : ℕ) → dim d then len l ≡ 0 → InRange d l
 in-range d l e =
-    let t = says-true (and-says (within-says 1 8 d) (within-says 1 576 l)) e in
-    record { dLow = t .0 .0; dHigh = t .0 .1; lLow = t .1 .0; lHigh = t .1 .1 }
+    let t = then-none (dim d) (len l) e in
+    let ds = dim-none d .0 (t .0) in
+    let ls = len-none l .0 (t .1) in
+    record { dLow = ds .0; dHigh = ds .1; lLow = ls .0; lHigh = ls .1 }
 
-pub range-no : (d l : ℕ) → within 1 8 d ≡ false → inRange d l ≡ false
-unfolding inRange
-range-no d l e = first-false (within 1 8 d) (within 1 576 l) e
+-- Every operation but a step's judges d and l first, then the shapes, then the rest.
+module _ (d l shapes rest : ℕ) {range : ℕ} (judged : range ≡ dim d then len l) where
+  parted : dim d then len l then shapes then rest ≡ range then shapes then rest
+  parted = sym (then-assoc (dim d) (len l) (shapes then rest)) ∙ ap (λ n. n then shapes then rest) (sym judged)
 
-pub range-then : (d l : ℕ) → within 1 8 d ≡ true → inRange d l ≡ within 1 576 l
-unfolding inRange
-range-then d l e = ap (λ t. t && within 1 576 l) e
+  -- What refuses d or l is the refusal ..
+  pub range-refuses : range ≢ 0 → range ≡ dim d then len l then shapes then rest
+  range-refuses some = sym (parted ∙ then-first range _ some)
 
--- d and l that are not refused are in range.
-pub range-accepted : (d l : ℕ) → dim d ≡ 0 → len l ≡ 0 → inRange d l ≡ true
-unfolding dim len unless inRange
-range-accepted d l e f = both-true (within 1 8 d) (within 1 576 l) (ok (within 1 8 d) 0 e) (ok (within 1 576 l) 1 f)
-  where
-    ok : (t : Bool) (n : ℕ) → cond t 0 (suc n) ≡ 0 → t ≡ true
-    ok true n e = refl
-    ok false n e = absurd (omega arith)
+  module _ (none : range ≡ 0) where
+    -- .. else what refuses a shape ..
+    pub shapes-refuse : shapes ≢ 0 → shapes ≡ dim d then len l then shapes then rest
+    shapes-refuse some = sym (parted ∙ then-next range _ none ∙ then-first shapes rest some)
 
--- The refusal of a plan depends on what stands at number 3 only where d and l are in range.
-pub plan-same : (p : Plan) (m n : ℕ) → (inRange (p .d) (p .l) ≡ true → m ≡ n) → planRefusal p m ≡ planRefusal p n
-unfolding planRefusal
-plan-same p m n e =
-    then-same (dim (p .d)) _ _
-    (λ a. then-same (len (p .l)) _ _ (λ b. ap (λ k. k then order (p .d) (p .start) then answer (p .d) (p .answer)) (e (range-accepted (p .d) (p .l) a b))))
+    -- .. else the rest.
+    pub rest-refuses : shapes ≡ 0 → rest ≡ dim d then len l then shapes then rest
+    rest-refuses whole = sym (parted ∙ then-next range _ none ∙ then-next shapes rest whole)
 
 -- ---- what is left of a list
 
@@ -184,48 +157,3 @@ pub element-some : (m : ℕ) (es : List ℕ) → m ≢ 0 → element m es ≡ un
 unfolding element
 element-some zero es ne = absurd (ne refl)
 element-some (suc m) es ne = refl
-
--- ---- a plan that is read
-
--- The refusal of a plan, parted after number 3.
-plan-parts : (p : Plan) (shapes : ℕ)
-    → planRefusal p shapes ≡ (dim (p .d) then (len (p .l) then shapes)) then (order (p .d) (p .start) then answer (p .d) (p .answer))
-unfolding planRefusal
-plan-parts p shapes =
-    let rest = order (p .d) (p .start) then answer (p .d) (p .answer) in
-    sym
-    (then-assoc (dim (p .d)) (len (p .l) then shapes) rest
-    ∙ ap (λ n. dim (p .d) then n) (then-assoc (len (p .l)) shapes rest))
-
-pub plan-early : (p : Plan) (shapes early : ℕ) → early ≡ dim (p .d) then (len (p .l) then shapes) → (early ≡ 0 → ⊥)
-    → early ≡ planRefusal p shapes
-plan-early p shapes early e n =
-    let rest = order (p .d) (p .start) then answer (p .d) (p .answer) in
-    sym (plan-parts p shapes ∙ ap (λ k. k then rest) (sym e) ∙ then-first early rest n)
-
-pub plan-late : (p : Plan) (shapes early : ℕ) → early ≡ dim (p .d) then (len (p .l) then shapes) → early ≡ 0
-    → order (p .d) (p .start) then answer (p .d) (p .answer) ≡ planRefusal p shapes
-plan-late p shapes early e z =
-    sym (plan-parts p shapes ∙ then-next _ _ (sym e ∙ z))
-
--- A loose plan, its bits measured by a length that is 0 out of range.
-pub lent-is : (p : Plan) (third : ℕ)
-    → planRefusal p ((unless (eqb (length (p .start)) (p .d)) 3 then unless (eqb (length (p .bits)) (sized (p .d) (p .l) (bitsLength (p .d) (p .l)))) 3) then third)
-    ≡ lentRefusal p third
-unfolding lentRefusal planShape shape startLength
-lent-is p third =
-    plan-same p _ _
-    (λ e. ap (λ n. (unless (eqb (length (p .start)) (p .d)) 3 then unless (eqb (length (p .bits)) n) 3) then third) (sized-yes (p .d) (p .l) (bitsLength (p .d) (p .l)) e))
-
--- The third buffer, measured by a length that is 0 out of range.
-pub lent-third : (p : Plan) (have n : ℕ)
-    → lentRefusal p (unless (eqb have (sized (p .d) (p .l) n)) 3) ≡ lentRefusal p (unless (eqb have n) 3)
-unfolding lentRefusal
-lent-third p have n =
-    plan-same p _ _ (λ e. ap (λ m. planShape p then unless (eqb have m) 3) (sized-yes (p .d) (p .l) n e))
-
--- The refusal of a plan that is read does not look at its bits.
-pub read-lent : (d l : ℕ) (start bits : List ℕ) (answer shapes : ℕ)
-    → planRefusal (planRead d l start answer) shapes ≡ planRefusal (planLent d l start bits answer) shapes
-unfolding planRefusal
-read-lent d l start bits answer shapes = refl

@@ -1,72 +1,44 @@
-// The length of each buffer, 0 where d or l is out of range: a huge d or l must not wrap on the way to its refusal.
-use crate::ranges::MOST_COLUMNS;
-use crate::ranges::MOST_STEPS;
-use crate::ranges::within;
+// The length of each buffer that depends on both d and l, which were judged before: so no product wraps.
 ghost use mathlib.Core.Path.{_≡_};
-ghost use Rattle.ladder.specs.Numbers.{scalarsLength, valuesLength, bitsLength, traceLength, registersLength};
+ghost use Rattle.ladder.specs.Numbers.{scalarsLength, valuesLength, bitsLength, traceLength};
 ghost use Rattle.ladder.specs.PlanFile.{fileLength};
-ghost use Rattle.refuse.specs.Inner.{inRange, sized};
+ghost use Rattle.refuse.specs.Inner.{InRange};
 
-fn in_range(d: u64, l: u64) -> bool
-    ensures { λ r. ⌜ r ≡ inRange d l ⌝ }
-{
-    if !within(1, MOST_COLUMNS, d) {
-        return false;
-    }
-    within(1, MOST_STEPS, l)
-}
+// The bytes of a plan file's trailer.
+pub const TRAILER_SIZE: usize = 12;
 
 pub fn scalars_length(d: u64, l: u64) -> u64
-    ensures { λ r. ⌜ r ≡ sized d l (scalarsLength d l) ⌝ }
+    requires { ⌜ InRange d l ⌝ }
+    ensures { λ r. ⌜ r ≡ scalarsLength d l ⌝ }
 {
-    if !in_range(d, l) {
-        return 0;
-    }
     d * ((l + 63) / 64)
 }
 
 pub fn values_length(d: u64, l: u64) -> u64
-    ensures { λ r. ⌜ r ≡ sized d l (valuesLength d l) ⌝ }
+    requires { ⌜ InRange d l ⌝ }
+    ensures { λ r. ⌜ r ≡ valuesLength d l ⌝ }
 {
-    if !in_range(d, l) {
-        return 0;
-    }
     d * (l / 64 + 1)
 }
 
 pub fn bits_length(d: u64, l: u64) -> u64
-    ensures { λ r. ⌜ r ≡ sized d l (bitsLength d l) ⌝ }
+    requires { ⌜ InRange d l ⌝ }
+    ensures { λ r. ⌜ r ≡ bitsLength d l ⌝ }
 {
-    if !in_range(d, l) {
-        return 0;
-    }
     (l * d + 7) / 8
 }
 
 pub fn trace_length(d: u64, l: u64) -> u64
-    ensures { λ r. ⌜ r ≡ sized d l (traceLength d l) ⌝ }
+    requires { ⌜ InRange d l ⌝ }
+    ensures { λ r. ⌜ r ≡ traceLength d l ⌝ }
 {
-    if !in_range(d, l) {
-        return 0;
-    }
     l * (d + 1) * (d + 2)
 }
 
-pub fn registers_length(d: u64, l: u64) -> u64
-    ensures { λ r. ⌜ r ≡ sized d l (registersLength d) ⌝ }
-{
-    if !in_range(d, l) {
-        return 0;
-    }
-    d + 1
-}
-
-// Start order, bits and a trailer of 12 bytes.
+// Start order, bits and trailer.
 pub fn file_length(d: u64, l: u64) -> u64
-    ensures { λ r. ⌜ r ≡ sized d l (fileLength d l) ⌝ }
+    requires { ⌜ InRange d l ⌝ }
+    ensures { λ r. ⌜ r ≡ fileLength d l ⌝ }
 {
-    if !in_range(d, l) {
-        return 0;
-    }
-    d + bits_length(d, l) + 12
+    d + bits_length(d, l) + TRAILER_SIZE as u64
 }

@@ -1,14 +1,9 @@
 // Whether numbers are an arrangement of 1..d.
 use crate::ranges::within;
+use lent::wide;
 ghost use mathlib.Core.Path.{_≡_};
 ghost use Rattle.ladder.specs.Lists.{all, count};
 ghost use Rattle.ladder.specs.Refusals.{within, eachOnce, isArrangement};
-
-fn wide(x: u8) -> u64
-    ensures { λ r. ⌜ r ≡ x ⌝ }
-{
-    x as u64
-}
 
 // Every number lies in 1..d.
 fn all_within(d: u64, s: &[u8]) -> bool

@@ -1,7 +1,6 @@
-// A function for each number of the table that any plan can meet, and the first refusal that applies. Number 4 stands with the scalars, a
-// walk state's 5 and a step's 3 with the walk, 9 with the plan file, 10 with the listing.
+// A function for each number of the table that more than one call can give, and the first refusal that applies. Number 4 stands with the
+// scalars, a walk state's 5 and a step's 3 with the walk, 9 with the plan file, 10 with the listing.
 use crate::elements::all_below;
-use crate::lengths::bits_length;
 use crate::orders::arrangement;
 use crate::ranges::LARGEST_MODULUS;
 use crate::ranges::MOST_COLUMNS;
@@ -9,9 +8,7 @@ use crate::ranges::MOST_STEPS;
 use crate::ranges::within;
 ghost use mathlib.Core.Path.{_≡_};
 ghost use lib.Dec.{eqb};
-ghost use Rattle.ladder.specs.Refusals.{_then_, unless, within, SHAPE, dim, len, order, answer, tooLarge, element, planRefusal};
-ghost use Rattle.ladder.specs.Plan.{planLent};
-ghost use Rattle.refuse.specs.Inner.{planRead, lentRefusal};
+ghost use Rattle.ladder.specs.Refusals.{_then_, unless, within, SHAPE, dim, len, order, answer, tooLarge, element};
 
 pub const OK: u64 = 0;
 
@@ -55,10 +52,19 @@ pub fn dim(d: u64) -> u64
     outside(d, 1, MOST_COLUMNS, DIM)
 }
 
-pub fn len(l: u64) -> u64
+fn len(l: u64) -> u64
     ensures { λ r. ⌜ r ≡ len l ⌝ }
 {
     outside(l, 1, MOST_STEPS, LENGTH)
+}
+
+// d, then l.
+pub fn range(d: u64, l: u64) -> u64
+    ensures { λ r. ⌜ r ≡ dim d then len l ⌝ }
+{
+    let dimension = dim(d);
+    let length = len(l);
+    first(dimension, length)
 }
 
 // A buffer of `have` elements that must have `want`.
@@ -102,25 +108,4 @@ pub fn element(m: u64, elements: &[u64]) -> u64
         return OK;
     }
     if all_below(m, elements) { OK } else { ELEMENT }
-}
-
-// The refusal of a plan that is read; `shapes` is what stands at number 3.
-pub fn plan(d: u64, l: u64, start: &[u8], row: u64, shapes: u64) -> u64
-    ensures { λ r. ⌜ r ≡ planRefusal (planRead d l (now (start .entry)) row) shapes ⌝ }
-{
-    let early = first(dim(d), first(len(l), shapes));
-    if early != OK {
-        return early;
-    }
-    let placed = order(d, start);
-    let reached = answer(d, row);
-    first(placed, reached)
-}
-
-// The refusal of a loose plan, lent as a start order and bits; `others` is the shape of the call's other buffers.
-pub fn lent_plan(d: u64, l: u64, start: &[u8], bits: &[u8], row: u64, others: u64) -> u64
-    ensures { λ r. ⌜ r ≡ lentRefusal (planLent d l (now (start .entry)) (now (bits .entry)) row) others ⌝ }
-{
-    let own = first(shape(start.len(), d), shape(bits.len(), bits_length(d, l)));
-    plan(d, l, start, row, first(own, others))
 }

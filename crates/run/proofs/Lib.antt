@@ -1,7 +1,3 @@
--- Laws of the runs.
-pub mod ByModulus
-pub mod Judged
-pub mod Beginning
-pub mod Ran
+-- What follows from the promises of the runs.
 pub mod Unique
 pub mod Promised

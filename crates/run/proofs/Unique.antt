@@ -1,4 +1,4 @@
--- No second answer fits the plain run's promise, nor the difference run's: from the promises alone.
+-- No second answer fits a run's promise: from the promise alone.
 -- Assumes nothing.
 use Prim.Native.Nat.{ℕ}
 use mathlib.Core.Path.{_≡_, sym, ap₂, _∙_}
@@ -15,8 +15,8 @@ same-ran r s n a d e =
     ∙ ap₂ (λ i j. record { refusal = s .refusal; answer = s .answer; doublings = i; additions = j }) d e
 
 -- Two answers with two outputs that a run could give and leave on the same input are equal ..
-pub run-unique : {p : Plan} {m : ℕ} {elements registers wanted : List ℕ} {r s : Ran} {registersAfter registersOther : List ℕ}
-    → RunPromise p m elements registers wanted r registersAfter → RunPromise p m elements registers wanted s registersOther
+pub run-unique : {p : Plan} {refusal : ℕ} {registers wanted : List ℕ} {r s : Ran} {registersAfter registersOther : List ℕ}
+    → RunPromise p refusal registers wanted r registersAfter → RunPromise p refusal registers wanted s registersOther
     → (r ≡ s) × (registersAfter ≡ registersOther)
 run-unique {r = r} {s} x y =
     let n = x .refusal-is ∙ sym (y .refusal-is) in (
@@ -26,13 +26,13 @@ run-unique {r = r} {s} x y =
     )
 
 -- .. of the plain run ..
-pub plain-unique : {p : Plan} {m : ℕ} {elements registers : List ℕ} {r s : Ran} {registersAfter registersOther : List ℕ}
+pub plain-unique : (m : ℕ) (elements : List ℕ) {p : Plan} {registers : List ℕ} {r s : Ran} {registersAfter registersOther : List ℕ}
     → PlainPromise p m elements registers r registersAfter → PlainPromise p m elements registers s registersOther
     → (r ≡ s) × (registersAfter ≡ registersOther)
-plain-unique x y = run-unique x y
+plain-unique m elements x y = run-unique x y
 
 -- .. and of the difference run.
-pub difference-unique : {p : Plan} {m : ℕ} {elements registers : List ℕ} {r s : Ran} {registersAfter registersOther : List ℕ}
+pub difference-unique : (m : ℕ) (elements : List ℕ) {p : Plan} {registers : List ℕ} {r s : Ran} {registersAfter registersOther : List ℕ}
     → DifferencePromise p m elements registers r registersAfter → DifferencePromise p m elements registers s registersOther
     → (r ≡ s) × (registersAfter ≡ registersOther)
-difference-unique x y = run-unique x y
+difference-unique m elements x y = run-unique x y

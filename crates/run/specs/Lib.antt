@@ -1,3 +1,2 @@
--- `Promise` is what the two runs promise. `Inner` holds what only inner contracts need: no promise rests on it.
+-- What the runs promise.
 pub mod Promise
-pub mod Inner

@@ -25,10 +25,10 @@ module _ (d l : ℕ) (ws : List ℕ) (words : (i : ℕ) → getD ws i 0 < 2 ^ 64
   k = scalarWords l
 
   some : 1 ≤ k
-  some = unfold scalarWords in omega (arith, shape .lLow)
+  some = unfold scalarWords in omega (arith, shape .range .lLow)
 
   parts : l - 1 ≡ 64 * (k - 1) + (l - 1) % 64
-  parts = unfold scalarWords in omega (arith, shape .lLow)
+  parts = unfold scalarWords in omega (arith, shape .range .lLow)
 
   -- What number j has past l - 1 bits is what its top word has past (l - 1) % 64.
   top : getD (numbersOf d k ws) j 0 / 2 ^ (l - 1) ≡ getD ws (j * k + (k - 1)) 0 / 2 ^ ((l - 1) % 64)
@@ -41,7 +41,7 @@ module _ (d l : ℕ) (ws : List ℕ) (words : (i : ℕ) → getD ws i 0 < 2 ^ 64
       ∙ ap (λ w. w / 2 ^ ((l - 1) % 64)) (own-at k ws j (k - 1) (omega (arith, some)))
 
   twice : 2 * 2 ^ (l - 1) ≡ 2 ^ l
-  twice = sym (pow-succ' 2 (l - 1)) ∙ ap (λ e. 2 ^ e) (omega (arith, shape .lLow))
+  twice = sym (pow-succ' 2 (l - 1)) ∙ ap (λ e. 2 ^ e) (omega (arith, shape .range .lLow))
 
   decided : getD (numbersOf d k ws) j 0 / 2 ^ (l - 1) < 2 ↔ getD (numbersOf d k ws) j 0 < 2 * 2 ^ (l - 1)
   decided = div-lt-iff-lt-mul (pow-pos (l - 1))

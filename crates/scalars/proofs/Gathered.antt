@@ -15,17 +15,17 @@ use Rattle.ladder.proofs.Numbers.{length-numbersOf, own, number-at}
 use Rattle.scalars.specs.Inner.{gathered}
 
 -- One number more in front.
-pub gathered-drop : (ks : List ℕ) (i j : ℕ) → j < length ks
+gathered-drop : (ks : List ℕ) (i j : ℕ) → j < length ks
     → gathered (drop j ks) i ≡ gathered (drop (suc j) ks) i * 2 + getD ks j 0 / 2 ^ i % 2
 unfolding gathered
 gathered-drop ks i j h = ap (λ ns. gathered ns i) (drop-cons ks j 0 h)
 
-pub odds-drop : (ks : List ℕ) (j : ℕ) → j < length ks → odds (drop j ks) ≡ getD ks j 0 % 2 + odds (drop (suc j) ks)
+odds-drop : (ks : List ℕ) (j : ℕ) → j < length ks → odds (drop j ks) ≡ getD ks j 0 % 2 + odds (drop (suc j) ks)
 unfolding odds
 odds-drop ks j h = ap odds (drop-cons ks j 0 h)
 
 -- As many bits as there are numbers.
-pub gathered-below : (ks : List ℕ) (i : ℕ) → gathered ks i < 2 ^ length ks
+gathered-below : (ks : List ℕ) (i : ℕ) → gathered ks i < 2 ^ length ks
 unfolding gathered
 gathered-below [] i = omega arith
 gathered-below (n ∷ ns) i = omega (arith, gathered-below ns i, two-pow-succ (length ns))

@@ -1,17 +1,15 @@
 -- Scalars in lent words, and one bit of each gathered into a number.
 -- Assumes nothing.
-use Prim.Native.Nat.{ℕ, zero, _+_, _*_, _/_, _%_, _^_, _≤_, _<_}
+use Prim.Native.Nat.{ℕ, zero, _+_, _*_, _/_, _%_, _^_, _<_}
 use mathlib.Core.Path.{_≡_}
 use mathlib.Core.List.{List, [], _∷_}
 use lib.ListN.{length, getD}
 use Rattle.ladder.specs.Numbers.{numbersOf, scalarWords}
+use Rattle.refuse.specs.Inner.{InRange}
 
 -- d and l are in range, and there are as many words as d scalars of l bits have.
 pub record Shaped (d l : ℕ) (words : List ℕ) : Type 0 where
-  pub dLow : 1 ≤ d
-  pub dHigh : d ≤ 8
-  pub lLow : 1 ≤ l
-  pub lHigh : l ≤ 576
+  pub range : InRange d l
   pub long : length words ≡ d * scalarWords l
 
 -- And every scalar is below 2^l.

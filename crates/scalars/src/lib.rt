@@ -1,5 +1,5 @@
-// Scalars in lent words: how many words, their bits, and number 4 of the table. An inside of the plan library, not to be called by
-// others: the functions ask that what they get was judged before.
+// Scalars in lent words: how many words, their bits, and number 4 of the table. An inside, for the crates of this
+// repository: the functions ask that what they get was judged before.
 mod lent;
 
 pub use lent::gather;

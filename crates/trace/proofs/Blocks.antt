@@ -12,11 +12,11 @@ use lib.Seq.{sets, length-sets, length-take-le}
 use Rattle.ladder.specs.Lists.{ones}
 use Rattle.ladder.specs.Trace.{entryBytes, traceBytes}
 use Rattle.ladder.specs.Walk.{bitsOf}
-use Rattle.walk.specs.Inner.Ready.{Columns}
-use Rattle.walk.specs.Inner.WalkBlock.{walkBlock}
-use Rattle.walk.proofs.StepBits.{ones-left, ones-room}
+use Rattle.bits.specs.Ready.{Columns}
+use Rattle.bits.specs.WalkBlock.{walkBlock}
+use Rattle.bits.proofs.StepBits.{ones-left, ones-room}
 use Rattle.ladder.proofs.Writes.{sets-append}
-use Rattle.walk.proofs.Additions.{entryAt, rest, more, rest-next, rest-none, block-rest}
+use Rattle.bits.proofs.Additions.{entryAt, rest, more, rest-next, rest-none, block-rest}
 use Rattle.trace.proofs.Entries.{length-entryBytes}
 
 -- The bytes of the additions from addition k on, v being the vector before them.
@@ -71,7 +71,7 @@ module _ {d : ℕ} (small : d ≤ 8) (signs : List ℤ) {order : List ℕ} (a : 
       )
 
   -- The doubling's bytes, and those of all additions behind them.
-  pub block-bytes : traceBytes (walkBlock d (take d signs) (map pred (take d order)) (bitsOf d n))
+  block-bytes : traceBytes (walkBlock d (take d signs) (map pred (take d order)) (bitsOf d n))
       ≡ entryBytes (entryAt d (ones (bitsOf d n)) (ones (bitsOf d n)) (replicate 8 (pos 0)))
       ++ bytesOf (replicate 8 (pos 0)) (ones (bitsOf d n)) 0
   unfolding traceBytes flatten

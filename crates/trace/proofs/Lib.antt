@@ -1,11 +1,9 @@
 -- Laws of the trace.
-pub mod SignedByte
 pub mod Entries
 pub mod Blocks
 pub mod StepBlocks
 pub mod WalkBlocks
 pub mod Tracing
 pub mod PlanTrace
-pub mod Judged
 pub mod Unique
 pub mod Promised

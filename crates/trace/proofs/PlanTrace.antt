@@ -12,16 +12,15 @@ use Rattle.ladder.specs.Numbers.{bitsAt, bytesFor, bitsLength, traceLength}
 use Rattle.ladder.specs.Matrix.{startSigns, stepOrder, stepSigns, orderAfter, signsAfter}
 use Rattle.ladder.specs.Plan.{Plan, startOrder, stepBits, orderIn, signsIn}
 use Rattle.ladder.specs.Trace.{blockIn, entriesIn, traceBytes, doublings, additionCount}
-use Rattle.ladder.specs.Walk.{walkOf}
+use Rattle.ladder.specs.Walk.{Walk, walkOf}
 use Rattle.ladder.proofs.Lists.{joined-same}
-use Rattle.ladder.proofs.Stairs.{stairs}
 use Rattle.ladder.proofs.Bits.{length-stepBits}
 use Rattle.ladder.proofs.Walk.{order-of-walk, signs-of-walk, length-orderAfter, length-signsAfter}
 use Rattle.ladder.proofs.Refusals.{Accepted}
 use Rattle.ladder.proofs.Demand3.{state-in, signs-in}
-use Rattle.walk.specs.Inner.WalkBlock.{walkBlock}
-use Rattle.walk.proofs.PlanWalk.{ready-start}
-use Rattle.walk.proofs.WalkBlock.{walk-block}
+use Rattle.bits.specs.WalkBlock.{walkBlock}
+use Rattle.bits.proofs.PlanWalk.{ready-start}
+use Rattle.bits.proofs.WalkBlock.{walk-block}
 use Rattle.trace.specs.Inner.{walkEntries, CanTrace, TraceLeft}
 
 -- The entries of a walk that holds S and signs, whose next bits are r.
@@ -50,7 +49,7 @@ module _ (p : Plan) (ok : Accepted p) where
   unfolding blockIn
   block-in s =
       ap (λ signs. walkBlock (p .d) signs (stepOrder (orderIn p s) (stepBits p s)) (stepBits p s)) (sym (signs-in p ok s))
-      ∙ walk-block (stairs (state-in p ok s)) (stepBits p s) (length-stepBits p s)
+      ∙ walk-block (state-in p ok s) (stepBits p s) (length-stepBits p s)
 
   -- The entries of the walk from the state before step s are the plan's blocks from step s on.
   pub walk-entries : (n s : ℕ)
@@ -65,28 +64,28 @@ module _ (p : Plan) (ok : Accepted p) where
       ∙ sym (joined-front n (λ i. blockIn p (s + i)))
 
   -- From the start state they are the plan's trace.
-  pub walk-trace : walkEntries (walkOf (p .d) (startOrder p) (startSigns (p .d))) (p .bits) 0 (p .l) ≡ entriesIn p
+  walk-trace : walkEntries (walkOf (p .d) (startOrder p) (startSigns (p .d))) (p .bits) 0 (p .l) ≡ entriesIn p
   unfolding entriesIn orderIn signsIn orderAfter signsAfter
   walk-trace = walk-entries (p .l) 0 ∙ joined-same (p .l) _ (blockIn p) (λ i h. ap (blockIn p) (zero-add i))
 
-  -- With its buffers' lengths right, the whole trace can be written ..
-  pub can-trace : (out : List ℕ) → length (p .bits) ≡ bitsLength (p .d) (p .l) → length out ≡ traceLength (p .d) (p .l)
-      → CanTrace (walkOf (p .d) (startOrder p) (startSigns (p .d))) (p .bits) 0 (p .l) out
-  unfolding walkOf bitsLength bytesFor traceLength
-  can-trace out b o = record {
-    ready = ready-start p ok;
-    forward = omega arith;
-    last = ok .lHigh;
-    bits = omega arith;
-    room =
-        o ∙ mul-assoc (p .l) (p .d + 1) (p .d + 2)
-        ∙ ap (λ l. l * ((p .d + 1) * (p .d + 2))) (sym (sub-zero (p .l)));
-  }
+  module _ {w : Walk} (starts : w ≡ walkOf (p .d) (startOrder p) (startSigns (p .d))) where
+    -- With its buffers' lengths right, the whole trace can be written ..
+    pub can-trace : {out : List ℕ} → length (p .bits) ≡ bitsLength (p .d) (p .l) → length out ≡ traceLength (p .d) (p .l)
+        → CanTrace w (p .bits) 0 (p .l) out
+    unfolding walkOf bitsLength bytesFor traceLength
+    can-trace b o = rw starts record {
+      ready = ready-start p ok;
+      forward = omega arith;
+      last = ok .lHigh;
+      bits = omega arith;
+      room =
+          o ∙ mul-assoc (p .l) (p .d + 1) (p .d + 2)
+          ∙ ap (λ l. l * ((p .d + 1) * (p .d + 2))) (sym (sub-zero (p .l)));
+    }
 
-  -- .. and it is the plan's.
-  pub traced-in : (out : List ℕ) (m n : ℕ)
-      → TraceLeft (walkEntries (walkOf (p .d) (startOrder p) (startSigns (p .d))) (p .bits) 0 (p .l - 0)) out m n
-      → (out ≡ traceBytes (entriesIn p)) × (m ≡ doublings (entriesIn p)) × (n ≡ additionCount (entriesIn p))
-  traced-in out m n t =
-      let e = ap (walkEntries (walkOf (p .d) (startOrder p) (startSigns (p .d))) (p .bits) 0) (sub-zero (p .l)) ∙ walk-trace in
-      (t .bytes ∙ ap traceBytes e, t .doubled ∙ ap doublings e, t .added ∙ ap additionCount e)
+    -- .. and it is the plan's.
+    pub traced-in : {out : List ℕ} {m n : ℕ} → TraceLeft (walkEntries w (p .bits) 0 (p .l - 0)) out m n
+        → (out ≡ traceBytes (entriesIn p)) × (m ≡ doublings (entriesIn p)) × (n ≡ additionCount (entriesIn p))
+    traced-in t =
+        let e = ap₂ (λ v l. walkEntries v (p .bits) 0 l) starts (sub-zero (p .l)) ∙ walk-trace in
+        (t .bytes ∙ ap traceBytes e, t .doubled ∙ ap doublings e, t .added ∙ ap additionCount e)

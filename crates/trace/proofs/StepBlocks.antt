@@ -11,10 +11,10 @@ use Rattle.ladder.specs.Lists.{ones}
 use Rattle.ladder.specs.Trace.{entryBytes, traceBytes}
 use Rattle.ladder.specs.Walk.{Walk, bitsOf, stepWalk}
 use Rattle.ladder.proofs.Signs.{turned}
-use Rattle.walk.specs.Inner.Ready.{Ready}
-use Rattle.walk.specs.Inner.WalkBlock.{walkBlock}
-use Rattle.walk.proofs.Additions.{entryAt}
-use Rattle.walk.proofs.Moving.{newOrder, comes, Moving, new-columns, moving-start, moving-taken, moving-vector, moving-next, moving-end}
+use Rattle.bits.specs.Ready.{Ready}
+use Rattle.bits.specs.WalkBlock.{walkBlock}
+use Rattle.bits.proofs.Additions.{entryAt}
+use Rattle.bits.proofs.Moving.{newOrder, comes, Moving, new-columns, moving-start, moving-taken, moving-vector, moving-next, moving-end}
 use Rattle.trace.proofs.Blocks.{Blocking, block-size, blocking-start, blocking-room, blocking-next, blocking-end, block-written}
 
 -- After k places the order and the signs are those of `Moving`, and the bytes those of `Blocking`.

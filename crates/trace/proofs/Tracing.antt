@@ -11,11 +11,11 @@ use lib.Seq.{sets, length-sets}
 use Rattle.ladder.specs.Trace.{Entry, traceBytes, doublings, additionCount}
 use Rattle.ladder.specs.Walk.{Walk, bitsOf, stepWalk}
 use Rattle.ladder.proofs.Trace.{doublings-append, additionCount-append, traceBytes-append}
-use Rattle.walk.specs.Inner.Ready.{Ready}
-use Rattle.walk.specs.Inner.ReadBits.{ReadBits}
-use Rattle.walk.specs.Inner.WalkBlock.{walkBlock}
+use Rattle.bits.specs.Ready.{Ready}
+use Rattle.bits.specs.ReadBits.{ReadBits}
+use Rattle.bits.specs.WalkBlock.{walkBlock}
 use Rattle.ladder.proofs.Writes.{sets-append, sets-whole}
-use Rattle.walk.proofs.Stepping.{ready-step}
+use Rattle.bits.proofs.Stepping.{ready-step}
 use Rattle.trace.specs.Inner.{walkEntries, CanTrace, TraceLeft}
 use Rattle.trace.proofs.WalkBlocks.{blockOf, block-of-arrays, blockOf-length, blockOf-doublings, blockOf-additions, entries-next, step-d, entries-length, entries-doublings, entries-additions}
 

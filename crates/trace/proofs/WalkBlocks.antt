@@ -16,10 +16,10 @@ use Rattle.ladder.proofs.Numbers.{tabulate-below}
 use Rattle.ladder.proofs.Bits.{bitAt-below, length-bitsAt}
 use Rattle.ladder.proofs.Trace.{doublings-append, additionCount-append, block-doublings, block-additions, traceBytes-append}
 use Rattle.ladder.proofs.Walk.{numberOfBits, numberOfBits-below, bitsOf-numberOfBits, order-of-walk, length-bitsOf}
-use Rattle.walk.specs.Inner.Ready.{Ready}
-use Rattle.walk.specs.Inner.ReadBits.{ReadBits}
-use Rattle.walk.specs.Inner.WalkBlock.{filled, walkBlock}
-use Rattle.walk.proofs.Stepping.{ready-step}
+use Rattle.bits.specs.Ready.{Ready}
+use Rattle.bits.specs.ReadBits.{ReadBits}
+use Rattle.bits.specs.WalkBlock.{filled, walkBlock}
+use Rattle.bits.proofs.Stepping.{ready-step}
 use Rattle.trace.specs.Inner.{walkEntries}
 use Rattle.trace.proofs.Blocks.{block-length}
 
@@ -43,12 +43,12 @@ filled-additions d v signs (j ∷ S) [] e = absurd (omega arith)
 filled-additions d v signs (j ∷ S) (p ∷ ps) e = omega (arith, filled-additions d (set v j (getD signs j (pos 0))) signs S ps (omega arith))
 
 module _ (d : ℕ) (signs : List ℤ) (S r : List ℕ) (e : length S ≡ length r) where
-  pub one-doubling : doublings (walkBlock d signs S r) ≡ 1
+  one-doubling : doublings (walkBlock d signs S r) ≡ 1
   unfolding walkBlock doublings block operations entryOf
   one-doubling =
       omega (arith, filled-doublings d (replicate d (pos 0)) signs S (additions r) (e ∙ sym (length-additions r)), block-doublings d [] r)
 
-  pub many-additions : additionCount (walkBlock d signs S r) ≡ length r
+  many-additions : additionCount (walkBlock d signs S r) ≡ length r
   unfolding walkBlock additionCount block operations entryOf
   many-additions =
       omega (arith, filled-additions d (replicate d (pos 0)) signs S (additions r) (e ∙ sym (length-additions r)), block-additions d [] r)
@@ -95,7 +95,7 @@ entries-next w bytes s m n r =
     (sym (r .bits))
 
 -- The bits of a step are those of a number.
-pub bits-number : (d : ℕ) (bytes : List ℕ) (s : ℕ) → ReadBits d s bytes (numberOfBits (bitsAt d bytes s))
+bits-number : (d : ℕ) (bytes : List ℕ) (s : ℕ) → ReadBits d s bytes (numberOfBits (bitsAt d bytes s))
 unfolding bitsAt
 bits-number d bytes s =
     let r = bitsAt d bytes s in

@@ -8,8 +8,8 @@ use Rattle.ladder.specs.Matrix.{stepOrder, stepSigns}
 use Rattle.ladder.specs.Numbers.{bitsAt}
 use Rattle.ladder.specs.Trace.{Entry, traceBytes, doublings, additionCount}
 use Rattle.ladder.specs.Walk.{Walk, walkOf, orderOf, walkSigns}
-use Rattle.walk.specs.Inner.Ready.{Ready}
-use Rattle.walk.specs.Inner.WalkBlock.{walkBlock}
+use Rattle.bits.specs.Ready.{Ready}
+use Rattle.bits.specs.WalkBlock.{walkBlock}
 
 -- The entries of the n steps from step s on, of a walk that stands before step s.
 unfoldable pub walkEntries : Walk → List ℕ → ℕ → ℕ → List Entry

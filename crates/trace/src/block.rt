@@ -1,8 +1,8 @@
 // One step of the walk, with its entries.
 use crate::entry::write_entry;
-use walk::number::bit;
-use walk::number::ones_in;
-use walk::state::Walk;
+use bits::bit;
+use bits::ones_in;
+use walk::Walk;
 ghost use mathlib.Core.Path.{_≡_};
 ghost use mathlib.Core.List.{map};
 ghost use Prim.Native.Nat.{pred, _+_, _*_, _≤_};
@@ -11,8 +11,8 @@ ghost use lib.Seq.{sets};
 ghost use Rattle.ladder.specs.Walk.{bitsOf, stepWalk};
 ghost use Rattle.ladder.specs.Trace.{traceBytes};
 ghost use Rattle.walk.specs.WalkState.{walkState};
-ghost use Rattle.walk.specs.Inner.Ready.{Ready};
-ghost use Rattle.walk.specs.Inner.WalkBlock.{walkBlock};
+ghost use Rattle.bits.specs.Ready.{Ready};
+ghost use Rattle.bits.specs.WalkBlock.{walkBlock};
 
 // Writes the doubling and the d additions of a step with the bits in r, from place `at` on, and answers the walk after the step. The
 // vectors are made of the signs before it: each addition fills in one more, of the column at the next place of the new order.

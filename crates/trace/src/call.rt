@@ -1,9 +1,9 @@
 // The public call `trace`.
 use crate::steps::trace_steps;
-use walk::start::start_walk;
+use judge::Beside;
+use judge::loose_refusal;
+use judge::start_walk;
 ghost use Rattle.ladder.specs.Plan.{planLent};
-ghost use mathlib.Core.Path.{_≡_};
-ghost use Rattle.ladder.specs.Refusals.{traceRefusal};
 ghost use Rattle.trace.specs.Promise.{TracePromise};
 
 // What a trace answers: the refusal, and the doublings and the additions written, 0 where it refuses.
@@ -13,19 +13,11 @@ pub struct Traced {
     pub additions: u64,
 }
 
-// The refusal of a trace: 1, 2, 3, 5, 6, where 3 covers the start order, the bits and the trace buffer.
-fn trace_refusal(d: u64, l: u64, start: &[u8], bits: &[u8], row: u64, out: &[u8]) -> u64
-    ensures { λ r. ⌜ r ≡ traceRefusal (planLent d l (now (start .entry)) (now (bits .entry)) row) (now (out .entry)) ⌝ }
-{
-    let room = refuse::shape(out.len(), refuse::trace_length(d, l));
-    refuse::lent_plan(d, l, start, bits, row, room)
-}
-
 // The trace of a plan: for each step its doubling and its d additions, each x, y and the difference of the two rows.
 pub fn trace(d: u64, l: u64, start: &[u8], bits: &[u8], row: u64, out: &mut [u8]) -> Traced
     ensures { λ r. ⌜ TracePromise (planLent d l (now (start .entry)) (now (bits .entry)) row) (now (out .entry)) r (now (out .exit)) ⌝ }
 {
-    let refusal = trace_refusal(d, l, start, bits, row, out);
+    let refusal = loose_refusal(d, l, start, bits, row, Beside::Trace(out.len()));
     if refusal != refuse::OK {
         return Traced {
             refusal,

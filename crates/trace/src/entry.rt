@@ -1,20 +1,10 @@
 // One entry of the trace.
+use bits::signed_byte;
 ghost use mathlib.Core.Path.{_≡_};
 ghost use Prim.Native.Nat.{_+_, _≤_};
 ghost use lib.ListN.{length, take};
 ghost use lib.Seq.{sets};
-ghost use Rattle.ladder.specs.Trace.{signedByte, entryBytes};
-
-// A signed number as a byte, two's complement.
-pub fn signed_byte(s: i8) -> u8
-    ensures { λ b. ⌜ b ≡ signedByte s ⌝ }
-{
-    if s < 0 {
-        (s as i16 + 256) as u8
-    } else {
-        s as u8
-    }
-}
+ghost use Rattle.ladder.specs.Trace.{entryBytes};
 
 // Writes rows x and y, counted from 1, and the first d coefficients of the vector, from place `at` on.
 pub fn write_entry(d: usize, x: usize, y: usize, vector: [i8; 8], out: &mut [u8], at: usize)

@@ -1,4 +1,4 @@
-// The trace of a plan. The public call is `trace`: it takes anything, and refuses by the table. `signed_byte` is for the program `conform`.
+// The trace of a plan. The public call is `trace`: it takes anything, and refuses by the table.
 mod block;
 mod call;
 mod entry;
@@ -6,4 +6,3 @@ mod steps;
 
 pub use call::Traced;
 pub use call::trace;
-pub use entry::signed_byte;

@@ -1,7 +1,7 @@
 // The trace of a range of steps.
 use crate::block::write_block;
-use walk::bits::step_bits;
-use walk::state::Walk;
+use bits::step_bits;
+use walk::Walk;
 ghost use Prim.Native.Nat.{_-_};
 ghost use Rattle.walk.specs.WalkState.{walkState};
 ghost use Rattle.trace.specs.Inner.{walkEntries, CanTrace, TraceLeft};

@@ -1,41 +1,20 @@
 -- What the judging of a walk state and of a step's number shows, in terms of the table's tests.
 -- Assumes nothing.
 use Prim.Native.Nat.{ℕ, _/_, _^_, _≤_, _<_}
-use mathlib.Core.Path.{_≡_, sym, ap, _∙_}
+use mathlib.Core.Path.{_≡_, sym}
 use mathlib.Core.Bool.{true, false, _&&_}
 use mathlib.Core.List.{List}
 use native.Mathlib.Decide.{decLt}
 use native.Mathlib.Nat.{div-lt-iff-lt-mul, div-eq-of-lt}
 use native.Mathlib.Omega.{arith}
-use borrow.Author.Tests.{eq-eqb}
 use lib.Dec.{eqb}
 use lib.IntN.{ℤ, pos}
 use lib.ListN.{length, getD, take, drop, List·getD-eq-default}
 use lib.Pow.{pow-pos}
-use lib.Seq.{getD-take, length-take-le}
-use mir.Syntax.{w8}
-use mir.Val.{SFits, toZ, ofZ}
-use mir.Facts.{toZ-ofZ}
 use Rattle.ladder.specs.Lists.{all}
 use Rattle.ladder.specs.Walk.{Walk}
-use Rattle.ladder.specs.Refusals.{unless, isArrangement, isUnit, isZero, isEight, walkOrder}
-use Rattle.ladder.proofs.Tests.{Says, reworded, eqb-says, and-says, all-says, past-says, isUnit-says, isZero-says}
-use Rattle.ladder.specs.Matrix.{Units}
-
--- ---- signs
-
--- Signs with the same bits are the same.
-pub same-sign : {s z : ℤ} → SFits w8 s → SFits w8 z → ofZ w8 s ≡ ofZ w8 z → s ≡ z
-same-sign f g e = sym (toZ-ofZ f) ∙ ap (toZ w8) e ∙ toZ-ofZ g
-
--- The signs of the first d columns.
-pub units-says : (d : ℕ) (signs : List ℤ) → d ≤ length signs → Says (all isUnit (take d signs)) (Units d signs)
-units-says d signs h =
-    let long : length (take d signs) ≡ d = length-take-le d signs h in
-    reworded (all-says isUnit (pos 0) (take d signs) isUnit-says) (
-      λ f j l. rw getD-take at (f j (omega arith)),
-      λ f j l. let b : j < d = omega arith in rw getD-take (f j b),
-    )
+use Rattle.ladder.specs.Refusals.{unless, isArrangement, allUnits, isZero, walkOrder}
+use Rattle.ladder.proofs.Tests.{Says, reworded, eqb-says, and-says, past-says, isZero-says}
 
 -- ---- what lies past d
 
@@ -62,22 +41,22 @@ eight-seen d k order signs e f h seen i l = go (decLt i k)
 
 -- ---- number 5
 
-module _ (w : Walk) (places : length (w .order) ≡ 8) (signs : length (w .signs) ≡ 8) where
+module _ (w : Walk) where
   -- The order is no arrangement ..
   pub order-fails : isArrangement (w .d) (take (w .d) (w .order)) ≡ false → 5 ≡ walkOrder w
-  unfolding walkOrder isEight unless
-  order-fails e = rw (eq-eqb _ _ places, eq-eqb _ _ signs, e)
+  unfolding walkOrder unless
+  order-fails e = rw e
 
   -- .. or it is, and a sign is neither 1 nor -1 ..
-  pub units-fail : isArrangement (w .d) (take (w .d) (w .order)) ≡ true → all isUnit (take (w .d) (w .signs)) ≡ false → 5 ≡ walkOrder w
-  unfolding walkOrder isEight unless
-  units-fail e f = rw (eq-eqb _ _ places, eq-eqb _ _ signs, e, f)
+  pub units-fail : isArrangement (w .d) (take (w .d) (w .order)) ≡ true → allUnits (w .d) (w .signs) ≡ false → 5 ≡ walkOrder w
+  unfolding walkOrder unless
+  units-fail e f = rw (e, f)
 
   -- .. or the signs are right too, and what lies past d decides.
-  pub rest-decides : isArrangement (w .d) (take (w .d) (w .order)) ≡ true → all isUnit (take (w .d) (w .signs)) ≡ true
+  pub rest-decides : isArrangement (w .d) (take (w .d) (w .order)) ≡ true → allUnits (w .d) (w .signs) ≡ true
       → unless (all (eqb 0) (drop (w .d) (w .order)) && all isZero (drop (w .d) (w .signs))) 5 ≡ walkOrder w
-  unfolding walkOrder isEight
-  rest-decides e f = rw (eq-eqb _ _ places, eq-eqb _ _ signs, e, f)
+  unfolding walkOrder
+  rest-decides e f = rw (e, f)
 
 -- ---- number 3
 

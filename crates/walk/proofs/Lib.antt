@@ -1,15 +1,4 @@
--- Laws of the walk.
-pub mod StepBits
-pub mod Filling
-pub mod Turning
-pub mod SmallSigns
-pub mod Stepping
-pub mod Moving
-pub mod Reading
-pub mod Additions
-pub mod WalkBlock
-pub mod PlanWalk
-pub mod Starting
+-- Laws of the walk state and its step.
 pub mod Judged
 pub mod Unique
 pub mod Promised

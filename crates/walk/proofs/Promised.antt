@@ -21,7 +21,7 @@ use Rattle.walk.specs.declared.state.Walk.{Walk}
 use Rattle.walk.specs.declared.step.Stepped.{Stepped}
 use Rattle.walk.specs.WalkState.{walkState}
 use Rattle.walk.specs.Promise.{StepPromise}
-use Rattle.walk.proofs.PlanWalk.{ready-in}
+use Rattle.bits.proofs.PlanWalk.{ready-in}
 use Rattle.walk.proofs.Unique.{same-walk}
 
 -- ---- step

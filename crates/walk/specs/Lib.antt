@@ -1,4 +1,3 @@
--- What the walk's contracts cite. `Inner` holds what only inner functions need: no public promise rests on it.
+-- What the walk's contracts cite.
 pub mod WalkState
 pub mod Promise
-pub mod Inner

@@ -1,11 +1,11 @@
 // One step of the walk.
-use crate::order::next_order;
-use crate::signs::next_signs;
 use crate::state::Walk;
+use bits::next_order;
+use bits::next_signs;
 ghost use mathlib.Core.Path.{_≡_};
 ghost use Rattle.ladder.specs.Walk.{stepWalk};
 ghost use Rattle.walk.specs.WalkState.{walkState};
-ghost use Rattle.walk.specs.Inner.Ready.{Ready};
+ghost use Rattle.bits.specs.Ready.{Ready};
 
 // The walk after a step with the bits in r, from a walk state that was judged before.
 pub fn advance(w: Walk, r: u64) -> Walk

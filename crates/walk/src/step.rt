@@ -1,6 +1,6 @@
 // The public call `step`.
 use crate::advance::advance;
-use crate::judge::step_refusal;
+use crate::refusal::step_refusal;
 use crate::state::Walk;
 ghost use Rattle.walk.specs.Promise.{StepPromise};
 

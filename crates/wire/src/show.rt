@@ -1,13 +1,10 @@
 // How a line is made: numbers in decimal, bytes and words in lower-case hexadecimal. A line is put together in a buffer, from a place on,
 // and written in one piece.
+use lent::wide;
 use libc::STDOUT_FILENO;
 
 // More bytes than these are told by their count and two sums.
 const LONG: usize = 1000;
-
-fn wide(x: u8) -> u64 {
-    x as u64
-}
 
 // One character; where there is no room the line is cut.
 fn character(line: &mut [u8], at: usize, c: u8) -> usize {

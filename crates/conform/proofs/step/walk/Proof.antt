@@ -17,14 +17,14 @@ abbrev μ-loop : tie.MeasureT-loop
 loop-holds : tie.Need-loop-holds Inv-loop μ-loop
 loop-holds c = search needs
 
-at-requires : tie.Need-at-requires Inv-loop μ-loop
-at-requires c κs = search needs
+byte-requires : tie.Need-byte-requires Inv-loop μ-loop
+byte-requires c κs = search needs
 
 array-write-order : tie.Need-array-write-order Inv-loop μ-loop
 array-write-order c = search needs
 
-at-requires-2 : tie.Need-at-requires-2 Inv-loop μ-loop
-at-requires-2 c κs = search needs
+byte-requires-2 : tie.Need-byte-requires-2 Inv-loop μ-loop
+byte-requires-2 c κs = search needs
 
 sign-requires : tie.Need-sign-requires Inv-loop μ-loop
 sign-requires c κs = search needs
@@ -51,9 +51,9 @@ walk-spec =
     Inv-loop
     μ-loop
     loop-holds
-    at-requires
+    byte-requires
     array-write-order
-    at-requires-2
+    byte-requires-2
     sign-requires
     array-set-from-signs
     add-i

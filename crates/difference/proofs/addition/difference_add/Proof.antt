@@ -12,7 +12,7 @@ use mir.Syntax.{w8}
 use mir.Val.{SFits}
 use Rattle.ladder.specs.Matrix.{IsSmall}
 use Rattle.ladder.specs.Registers.{modulus, timesSigned}
-use Rattle.run.proofs.ByModulus.{below-modulus}
+use Rattle.registers.proofs.ByModulus.{below-modulus}
 use Rattle.difference.proofs.Combining.{Combining, combining-start, combining-next, combining-end}
 use Rattle.difference.proofs.addition.difference_add.Statement.{statement}
 use Rattle.difference.proofs.addition.difference_add.Tie as tie

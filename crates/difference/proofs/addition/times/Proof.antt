@@ -9,7 +9,7 @@ use mir.Facts.{sfits-lit}
 use mir.Syntax.{w8}
 use mir.Val.{ofZ}
 use mir.ValLaws.{toZ-ofZ}
-use Rattle.walk.proofs.Judged.{same-sign}
+use Rattle.bits.proofs.SmallSigns.{same-sign}
 use Rattle.difference.proofs.Multiples.{times-none, times-below, times-above}
 use Rattle.difference.proofs.addition.times.Statement.{statement}
 use Rattle.difference.proofs.addition.times.Tie as tie

@@ -13,8 +13,8 @@ use mir.Syntax.{w8}
 use mir.Val.{toZ, ofZ}
 use Rattle.ladder.specs.Registers.{modulus}
 use Rattle.walk.specs.WalkState.{walkState}
-use Rattle.walk.proofs.SmallSigns.{unit-kept, unit-fits, unit-turned}
-use Rattle.walk.proofs.Moving.{comes, Reads, moving-reads}
+use Rattle.bits.proofs.SmallSigns.{unit-kept, unit-fits, unit-turned}
+use Rattle.bits.proofs.Moving.{comes, Reads, moving-reads}
 use Rattle.difference.proofs.Stepping.{Stepping, doubled, stepping-start, stepping-room, stepping-wide, stepping-asks, stepping-next, stepping-end}
 use Rattle.difference.proofs.steps.difference_step.Statement.{statement}
 use Rattle.difference.proofs.steps.difference_step.Tie as tie

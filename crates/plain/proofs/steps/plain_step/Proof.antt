@@ -17,17 +17,20 @@ Inv-loop m d r old new₀ x₀ k₀ new x k = Summing m d r old new x k
 abbrev μ-loop : tie.MeasureT-loop
 μ-loop m d r old new₀ x₀ k₀ new x k = d - k
 
--- What the function got, at the loop's head.
+-- The function's entry, from where the ones are counted and from the loop's head.
+abbrev entry : tie.After-ones-in Inv-loop μ-loop → tie.Start Inv-loop μ-loop
+entry c = c .before .before .before
+
 abbrev entered : tie.At-loop Inv-loop μ-loop → tie.Start Inv-loop μ-loop
-entered l = l .before .before .before .before .before .before .before
+entered l = entry (l .before .before .before .before)
 
 -- The row that is doubled is one of d + 1, and its register an element.
 first : (c : tie.After-ones-in Inv-loop μ-loop)
-    → (c .ones-in .result < length (c .before .before .before .args .old .now))
+    → (c .ones-in .result < length (entry c .args .old .now))
     × (c .ones-in .result ≤ 8)
-    × (getD (c .before .before .before .args .old .now) (c .ones-in .result) 0 < modulus (c .before .before .before .args .m))
+    × (getD (entry c .args .old .now) (c .ones-in .result) 0 < modulus (entry c .args .m))
 first c =
-    let s = c .before .before .before in
+    let s = entry c in
     let row = doubled-room (s .pre .0) (s .args .r) _ (c .ones-in .ensures) in
     (omega (arith, row .0, s .pre .0 .rows), omega (arith, row .0, s .pre .0 .dHigh), row .1)
 
@@ -60,16 +63,17 @@ shared-slice-read-add-2 c = first (c .before .before) .0
 
 add-requires : tie.Need-add-requires Inv-loop μ-loop
 add-requires c κs =
-    let register = first (c .before .before) .2 in
-    (c .before .before .before .before .before .pre .0 .mHigh, (register, register))
+    let o = c .before .before in
+    let register = first o .2 in
+    (entry o .pre .0 .mHigh, (register, register))
 
 slice-write-new : tie.Need-slice-write-new Inv-loop μ-loop
-slice-write-new c = omega (arith, c .before .before .before .before .before .before .pre .1)
+slice-write-new c = omega (arith, entry (c .before .before .before) .pre .1)
 
 loop-holds : tie.Need-loop-holds Inv-loop μ-loop
 loop-holds c =
     let o = c .before .before .before in
-    let s = o .before .before .before in
+    let s = entry o in
     summing-start (s .pre .0) (s .args .r) (s .args .new .now) (s .pre .1) _ (o .ones-in .ensures) (c .add .result) (c .add .ensures)
 
 bit-requires : tie.Need-bit-requires Inv-loop μ-loop

@@ -2,6 +2,7 @@
 -- Assumes nothing.
 use Prim.Native.Nat.{ℕ, suc, _+_, _-_, _*_, _≤_, _<_}
 use mathlib.Core.Path.{_≡_, sym, ap, subst, _∙_}
+use mathlib.Core.List.{List}
 use native.Mathlib.Omega.{arith}
 use lib.ListN.{length}
 use Rattle.ladder.proofs.Bits.{bits-room}
@@ -15,9 +16,26 @@ Inv-loop m d l bits regs₀ other₀ s₀ regs other s = PlainRunning m d l bits
 abbrev μ-loop : tie.MeasureT-loop
 μ-loop m d l bits regs₀ other₀ s₀ regs other s = l - s
 
--- What the function got, at the loop's head.
-abbrev entered : tie.At-loop Inv-loop μ-loop → tie.Start Inv-loop μ-loop
-entered l = l .before .before .before .before
+-- The states: the function's entry; the turn of a pair of steps, and its first step made; where the loop was left, and the last single
+-- step made. The loop's head stands before a turn and before the place where the loop was left.
+abbrev entry : tie.At-loop Inv-loop μ-loop → tie.Start Inv-loop μ-loop
+entry l = l .before .before .before .before
+
+abbrev turn : tie.After-plain-step Inv-loop μ-loop → tie.In-loop Inv-loop μ-loop
+turn c = c .before .before .before .before
+
+abbrev first : tie.After-plain-step2 Inv-loop μ-loop → tie.After-plain-step Inv-loop μ-loop
+first c = c .before .before .before .before .before .before
+
+abbrev left : tie.After-plain-step3 Inv-loop μ-loop → tie.After-loop Inv-loop μ-loop
+left c = c .before .before .before .before .before
+
+abbrev single : tie.After-store Inv-loop μ-loop → tie.After-plain-step3 Inv-loop μ-loop
+single c = c .before .before .before .before .before
+
+-- The registers after s steps from those that came.
+abbrev Running : tie.At-loop Inv-loop μ-loop → List ℕ → ℕ → Type 0
+Running l regs s = let a = entry l .args in PlainRunning (a .m) (a .d) (a .l) (a .bits .now) (a .regs .now) regs s
 
 -- The bits of a step are there.
 there : (e : tie.Start Inv-loop μ-loop) (s : ℕ) → s < e .args .l
@@ -28,27 +46,23 @@ there e s h =
 
 -- Fewer steps are made than a word counts.
 few : (l : tie.At-loop Inv-loop μ-loop) → l .loop .s ≤ 576
-few l = omega (arith, l .loop .inv .0 .within, entered l .pre .0 .lHigh)
+few l = omega (arith, l .loop .inv .0 .within, entry l .pre .0 .lHigh)
 
 -- After the first step of a pair, in the other words ..
 half : (c : tie.After-plain-step Inv-loop μ-loop)
-    → let l = c .before .before .before .before .before in
-    let a = entered l .args in
-    PlainRunning (a .m) (a .d) (a .l) (a .bits .now) (a .regs .now) (c .plain-step .last .1 .1 .1 .1 .0) (l .loop .s + 1)
+    → let l = turn c .before in
+    Running l (c .plain-step .last .1 .1 .1 .1 .0) (l .loop .s + 1)
 half c =
-    let s = c .before .before .before in
-    let l = s .before .before in
-    running-next (l .loop .inv .0) (omega (arith, s .before .loop-test .taken)) (s .step-bits .result) (s .step-bits .ensures) _ (c .plain-step .ensures)
+    let bits = c .before .before .before .step-bits in
+    running-next (turn c .before .loop .inv .0) (omega (arith, turn c .loop-test .taken)) (bits .result) (bits .ensures) _ (c .plain-step .ensures)
 
 -- .. and after the second.
 both : (c : tie.After-plain-step2 Inv-loop μ-loop)
-    → let l = c .before .before .before .before .before .before .before .before .before .before .before in
-    let a = entered l .args in
-    PlainRunning (a .m) (a .d) (a .l) (a .bits .now) (a .regs .now) (c .plain-step2 .last .1 .1 .1 .1 .0) (l .loop .s + 1 + 1)
+    → let l = turn (first c) .before in
+    Running l (c .plain-step2 .last .1 .1 .1 .1 .0) (l .loop .s + 1 + 1)
 both c =
-    let t = c .before .before .before in
-    let h = c .before .before .before .before .before .before in
-    running-next (half h) (h .before .before .before .before .loop-test .taken) (t .step-bits2 .result) (t .step-bits2 .ensures) _ (c .plain-step2 .ensures)
+    let bits = c .before .before .before .step-bits2 in
+    running-next (half (first c)) (turn (first c) .loop-test .taken) (bits .result) (bits .ensures) _ (c .plain-step2 .ensures)
 
 loop-holds : tie.Need-loop-holds Inv-loop μ-loop
 loop-holds c = let p = c .before .before .before .pre in (running-start (p .0), p .1)
@@ -57,46 +71,47 @@ add-loop : tie.Need-add-loop Inv-loop μ-loop
 add-loop c = omega (arith, few c)
 
 step-bits-requires : tie.Need-step-bits-requires Inv-loop μ-loop
-step-bits-requires c κs = there (entered (c .before)) (c .before .loop .s) (omega (arith, c .loop-test .taken))
+step-bits-requires c κs = there (entry (c .before)) (c .before .loop .s) (omega (arith, c .loop-test .taken))
 
 plain-step-requires : tie.Need-plain-step-requires Inv-loop μ-loop
 plain-step-requires c κs = let i = c .before .before .before .before .loop .inv in (i .0 .step, i .1)
 
 add-step-bits : tie.Need-add-step-bits Inv-loop μ-loop
-add-step-bits c = omega (arith, few (c .before .before .before .before .before .before .before))
+add-step-bits c = omega (arith, few (turn (c .before .before) .before))
 
 step-bits-requires-2 : tie.Need-step-bits-requires-2 Inv-loop μ-loop
 step-bits-requires-2 c κs =
-    let l = c .before .before .before .before .before .before .before in
-    there (entered l) (l .loop .s + 1) (c .before .before .before .before .before .before .loop-test .taken)
+    let t = turn (c .before .before) in
+    there (entry (t .before)) (t .before .loop .s + 1) (t .loop-test .taken)
 
 plain-step-requires-2 : tie.Need-plain-step-requires-2 Inv-loop μ-loop
-plain-step-requires-2 c κs = (half (c .before .before .before .before .before) .step, c .before .before .before .before .before .before .before .before .before .before .loop .inv .0 .step .rows)
+plain-step-requires-2 c κs =
+    let h = c .before .before .before .before .before in
+    (half h .step, turn h .before .loop .inv .0 .step .rows)
 
 add-s : tie.Need-add-s Inv-loop μ-loop
-add-s c = omega (arith, few (c .before .before .before .before .before .before .before .before .before .before .before .before .before))
+add-s c = omega (arith, few (turn (first (c .before .before)) .before))
 
 loop-less : tie.Need-loop-less Inv-loop μ-loop
-loop-less c = omega (arith, c .before .before .before .before .before .before .before .before .before .before .before .before .loop-test .taken)
+loop-less c = omega (arith, turn (first (c .before .before)) .loop-test .taken)
 
 loop-again : tie.Need-loop-again Inv-loop μ-loop
 loop-again c =
-    let l = c .before .before .before .before .before .before .before .before .before .before .before .before .before in
-    let a = entered l .args in
+    let p = c .before .before in
+    let l = turn (first p) .before in
     let two : l .loop .s + 1 + 1 ≡ l .loop .s + 2 = omega arith in
-    (subst (PlainRunning (a .m) (a .d) (a .l) (a .bits .now) (a .regs .now) _) two (both (c .before .before)), half (c .before .before .before .before .before .before .before .before) .step .rows)
+    (subst (Running l _) two (both p), half (first p) .step .rows)
 
 -- After a last single step, in the other words.
 last : (c : tie.After-plain-step3 Inv-loop μ-loop)
-    → let l = c .before .before .before .before .before .before in
-    let a = entered l .args in
-    PlainRunning (a .m) (a .d) (a .l) (a .bits .now) (a .regs .now) (c .plain-step3 .last .1 .1 .1 .1 .0) (l .loop .s + 1)
+    → let l = left c .before in
+    Running l (c .plain-step3 .last .1 .1 .1 .1 .0) (l .loop .s + 1)
 last c =
     let s = c .before .before .before in
-    running-next (c .before .before .before .before .before .before .loop .inv .0) (s .before .if1 .taken) (s .step-bits3 .result) (s .step-bits3 .ensures) _ (c .plain-step3 .ensures)
+    running-next (left c .before .loop .inv .0) (s .before .if1 .taken) (s .step-bits3 .result) (s .step-bits3 .ensures) _ (c .plain-step3 .ensures)
 
 step-bits-requires-3 : tie.Need-step-bits-requires-3 Inv-loop μ-loop
-step-bits-requires-3 c κs = let l = c .before .before in there (entered l) (l .loop .s) (c .if1 .taken)
+step-bits-requires-3 c κs = let l = c .before .before in there (entry l) (l .loop .s) (c .if1 .taken)
 
 plain-step-requires-3 : tie.Need-plain-step-requires-3 Inv-loop μ-loop
 plain-step-requires-3 c κs = let i = c .before .before .before .before .before .loop .inv in (i .0 .step, i .1)
@@ -104,28 +119,30 @@ plain-step-requires-3 c κs = let i = c .before .before .before .before .before 
 store-requires : tie.Need-store-requires Inv-loop μ-loop
 store-requires c κs =
     let p = c .before .before .before .before in
-    last p .step .rows ∙ sym (p .before .before .before .before .before .before .loop .inv .0 .step .rows)
+    last p .step .rows ∙ sym (left p .before .loop .inv .0 .step .rows)
 
 same-length : tie.Need-same-length Inv-loop μ-loop
 same-length c =
-    let p = c .before .before .before .before .before .before .before in
-    ap length (c .before .before .store .ensures) ∙ last p .step .rows ∙ sym (entered (p .before .before .before .before .before .before) .pre .0 .step .rows)
+    let e = c .before .before in
+    let p = single e in
+    ap length (e .store .ensures) ∙ last p .step .rows ∙ sym (entry (left p .before) .pre .0 .step .rows)
 
 same-length-2 : tie.Need-same-length-2 Inv-loop μ-loop
 same-length-2 c =
-    let p = c .before .before .before .before .before .before .before in
-    last p .step .rows ∙ sym (entered (p .before .before .before .before .before .before) .pre .1)
+    let p = single (c .before .before) in
+    last p .step .rows ∙ sym (entry (left p .before) .pre .1)
 
 returns : tie.Need-returns Inv-loop μ-loop
 returns c S =
-    let p = c .before .before .before .before .before .before .before in
-    c .before .before .store .ensures ∙ running-end (last p) (c .before .before .before .before .before .before .before .before .before .before .before .before .loop-test .left) S
+    let e = c .before .before in
+    let p = single e in
+    e .store .ensures ∙ running-end (last p) (left p .loop-test .left) S
 
 same-length-3 : tie.Need-same-length-3 Inv-loop μ-loop
-same-length-3 c = let l = c .before .before in l .loop .inv .0 .step .rows ∙ sym (entered l .pre .0 .step .rows)
+same-length-3 c = let l = c .before .before in l .loop .inv .0 .step .rows ∙ sym (entry l .pre .0 .step .rows)
 
 same-length-4 : tie.Need-same-length-4 Inv-loop μ-loop
-same-length-4 c = let l = c .before .before in l .loop .inv .1 ∙ sym (entered l .pre .1)
+same-length-4 c = let l = c .before .before in l .loop .inv .1 ∙ sym (entry l .pre .1)
 
 returns-2 : tie.Need-returns-2 Inv-loop μ-loop
 returns-2 c S = running-end (c .before .before .loop .inv .0) (c .if1 .left) S

@@ -1,127 +1,78 @@
--- `fields` meets its contract: each byte is below 256, so no sum wraps.
+-- `fields` meets its contract: two bytes make less than 65,536, so no sum wraps.
 -- Assumes nothing.
+use Prim.Native.Nat.{_≤_}
 use mathlib.Core.Path.{refl}
-use native.Mathlib.Nat.{add-zero}
+use native.Mathlib.Nat.{add-zero, add-assoc}
 use native.Mathlib.Omega.{arith}
+use lib.ListN.{length}
 use Rattle.ladder.specs.PlanFile.{trailerByte, dIn, lIn, answerIn, distanceIn, trailerSize}
 use borrow.Author.Needs.{needs}
 use Rattle.planfile.proofs.trailer.fields.Statement.{statement}
 use Rattle.planfile.proofs.trailer.fields.Tie as tie
 
-sub-at : tie.Need-sub-at
-sub-at c = search needs
+-- The function's entry.
+abbrev entry : tie.After-wide → tie.Start
+entry c = c .before .before .before
 
-add-wide : tie.Need-add-wide
-add-wide c = search needs
+twelve : (s : tie.Start) → 12 ≤ length (s .args .file .now)
+unfolding trailerSize
+twelve s = s .pre
+
+sub-at : tie.Need-sub-at
+sub-at c = twelve (c .before)
 
 shared-slice-read-wide : tie.Need-shared-slice-read-wide
-shared-slice-read-wide c = search needs
+shared-slice-read-wide c = omega (arith, twelve (c .before .before))
 
 wide-requires : tie.Need-wide-requires
 wide-requires c κs = search needs
 
-add-wide-2 : tie.Need-add-wide-2
-add-wide-2 c = search needs
+add-wide : tie.Need-add-wide
+add-wide c = search needs
 
 shared-slice-read-wide-2 : tie.Need-shared-slice-read-wide-2
-shared-slice-read-wide-2 c = search needs
+shared-slice-read-wide-2 c = omega (arith, twelve (entry (c .before)))
 
 wide-requires-2 : tie.Need-wide-requires-2
 wide-requires-2 c κs = search needs
 
-mul-low : tie.Need-mul-low
-mul-low c = search needs
+add-two-bytes : tie.Need-add-two-bytes
+add-two-bytes c = search needs
 
-add-low : tie.Need-add-low
-add-low c = search needs
+two-bytes-requires : tie.Need-two-bytes-requires
+two-bytes-requires c κs = omega (arith, twelve (entry (c .before .before)))
 
-add-wide-3 : tie.Need-add-wide-3
-add-wide-3 c = search needs
+add-two-bytes-2 : tie.Need-add-two-bytes-2
+add-two-bytes-2 c = search needs
 
-shared-slice-read-wide-3 : tie.Need-shared-slice-read-wide-3
-shared-slice-read-wide-3 c = search needs
+two-bytes-requires-2 : tie.Need-two-bytes-requires-2
+two-bytes-requires-2 c κs = omega (arith, twelve (entry (c .before .before .before)))
 
-wide-requires-3 : tie.Need-wide-requires-3
-wide-requires-3 c κs = search needs
+add-two-bytes-3 : tie.Need-add-two-bytes-3
+add-two-bytes-3 c = search needs
 
-mul-high : tie.Need-mul-high
-mul-high c = search needs
+two-bytes-requires-3 : tie.Need-two-bytes-requires-3
+two-bytes-requires-3 c κs = omega (arith, twelve (entry (c .before .before .before .before)))
 
-add-wide-4 : tie.Need-add-wide-4
-add-wide-4 c = search needs
+mul-t16 : tie.Need-mul-t16
+mul-t16 c = search needs
 
-shared-slice-read-wide-4 : tie.Need-shared-slice-read-wide-4
-shared-slice-read-wide-4 c = search needs
-
-wide-requires-4 : tie.Need-wide-requires-4
-wide-requires-4 c κs = search needs
-
-mul-high-2 : tie.Need-mul-high-2
-mul-high-2 c = search needs
-
-add-high : tie.Need-add-high
-add-high c = search needs
-
-shared-slice-read-wide-5 : tie.Need-shared-slice-read-wide-5
-shared-slice-read-wide-5 c = search needs
-
-wide-requires-5 : tie.Need-wide-requires-5
-wide-requires-5 c κs = search needs
-
-add-wide-5 : tie.Need-add-wide-5
-add-wide-5 c = search needs
-
-shared-slice-read-wide-6 : tie.Need-shared-slice-read-wide-6
-shared-slice-read-wide-6 c = search needs
-
-wide-requires-6 : tie.Need-wide-requires-6
-wide-requires-6 c κs = search needs
-
-add-wide-6 : tie.Need-add-wide-6
-add-wide-6 c = search needs
-
-shared-slice-read-wide-7 : tie.Need-shared-slice-read-wide-7
-shared-slice-read-wide-7 c = search needs
-
-wide-requires-7 : tie.Need-wide-requires-7
-wide-requires-7 c κs = search needs
-
-add-wide-7 : tie.Need-add-wide-7
-add-wide-7 c = search needs
-
-shared-slice-read-wide-8 : tie.Need-shared-slice-read-wide-8
-shared-slice-read-wide-8 c = search needs
-
-wide-requires-8 : tie.Need-wide-requires-8
-wide-requires-8 c κs = search needs
-
-mul-t24 : tie.Need-mul-t24
-mul-t24 c = search needs
-
-add-t25 : tie.Need-add-t25
-add-t25 c = search needs
-
-add-t26 : tie.Need-add-t26
-add-t26 c = search needs
+add-t17 : tie.Need-add-t17
+add-t17 c = search needs
 
 returns : tie.Need-returns
 unfolding dIn answerIn lIn distanceIn trailerByte trailerSize
 returns c =
-    let w7 = c .before .before in
-    let w6 = w7 .before .before in
-    let w5 = w6 .before .before in
-    let w4 = w5 .before .before in
-    let w3 = w4 .before .before in
-    let w2 = w3 .before .before in
-    let w1 = w2 .before .before in (
+    let far = c .before in
+    let steps = far .before in
+    let row = steps .before in
+    let d = row .before .before in (
       refl,
       record {
-        d-is = rw add-zero (w5 .wide5 .ensures .0);
-        row-is = w6 .wide6 .ensures .0;
-        l-is = omega (arith, w7 .wide7 .ensures .0, c .wide8 .ensures .0);
-        distance-is = omega (arith, w1 .wide .ensures .0, w2 .wide2 .ensures .0, w3 .wide3 .ensures .0, w4 .wide4 .ensures .0);
-        d-byte = w5 .wide5 .ensures .1;
-        distance-bytes = omega (arith, w1 .wide .ensures .1, w2 .wide2 .ensures .1, w3 .wide3 .ensures .1, w4 .wide4 .ensures .1);
+        d-is = rw add-zero (d .wide .ensures .0);
+        row-is = row .wide2 .ensures .0;
+        l-is = simp add-assoc at (steps .two-bytes .ensures .0);
+        distance-is = omega (arith, simp add-assoc at (far .two-bytes2 .ensures .0), simp add-assoc at (c .two-bytes3 .ensures .0));
       },
     )
 
@@ -130,35 +81,17 @@ fields-spec =
     tie.close
     (tie.spec
     sub-at
-    add-wide
     shared-slice-read-wide
     wide-requires
-    add-wide-2
+    add-wide
     shared-slice-read-wide-2
     wide-requires-2
-    mul-low
-    add-low
-    add-wide-3
-    shared-slice-read-wide-3
-    wide-requires-3
-    mul-high
-    add-wide-4
-    shared-slice-read-wide-4
-    wide-requires-4
-    mul-high-2
-    add-high
-    shared-slice-read-wide-5
-    wide-requires-5
-    add-wide-5
-    shared-slice-read-wide-6
-    wide-requires-6
-    add-wide-6
-    shared-slice-read-wide-7
-    wide-requires-7
-    add-wide-7
-    shared-slice-read-wide-8
-    wide-requires-8
-    mul-t24
-    add-t25
-    add-t26
+    add-two-bytes
+    two-bytes-requires
+    add-two-bytes-2
+    two-bytes-requires-2
+    add-two-bytes-3
+    two-bytes-requires-3
+    mul-t16
+    add-t17
     returns)

@@ -4,6 +4,7 @@ use mathlib.Core.Path.{sym, ap₂, _∙_}
 use mathlib.Core.Bool.{_&&_}
 use native.Mathlib.Omega.{arith}
 use borrow.Author.Tests.{le-leb, lt-leb, not-true, not-false}
+use Rattle.ladder.specs.PlanFile.{trailerSize}
 use Rattle.refuse.proofs.Laws.{unless-yes, unless-no, both-true, first-false}
 use borrow.Author.Needs.{needs}
 use Rattle.planfile.proofs.trailer.read_trailer.Statement.{statement}
@@ -16,6 +17,7 @@ returns c = record {
 }
 
 marked-requires : tie.Need-marked-requires
+unfolding trailerSize
 marked-requires c κs = search needs
 
 returns-2 : tie.Need-returns-2

@@ -6,12 +6,12 @@ use borrow.Author.Needs.{needs}
 use Rattle.planfile.proofs.unpacking.unpack.Statement.{statement}
 use Rattle.planfile.proofs.unpacking.unpack.Tie as tie
 
-judge-requires : tie.Need-judge-requires
-judge-requires c κs = search needs
+judged-requires : tie.Need-judged-requires
+judged-requires c κs = search needs
 
 returns : tie.Need-returns
 returns c = record {
-  refusal-is = c .before .judge .ensures .refusal;
+  refusal-is = c .before .judged .ensures .refusal;
   d-is = sym (refusing-yes _ _ _ (c .if1 .taken));
   l-is = sym (refusing-yes _ _ _ (c .if1 .taken));
   row-is = sym (refusing-yes _ _ _ (c .if1 .taken));
@@ -19,7 +19,7 @@ returns c = record {
 
 returns-2 : tie.Need-returns-2
 returns-2 c =
-    let j = c .before .judge .ensures in
+    let j = c .before .judged .ensures in
     let f = j .fields (c .if1 .left) in
     record {
       refusal-is = j .refusal;
@@ -29,4 +29,4 @@ returns-2 c =
     }
 
 pub unpack-spec : {M : Type 1} → statement M
-unpack-spec = tie.close (tie.spec judge-requires returns returns-2)
+unpack-spec = tie.close (tie.spec judged-requires returns returns-2)

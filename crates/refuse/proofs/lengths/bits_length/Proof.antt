@@ -1,30 +1,21 @@
 -- `bits_length` meets its contract: in range nothing wraps.
 -- Assumes nothing.
-use mathlib.Core.Path.{sym, _∙_}
-use borrow.Author.Tests.{not-true, not-false}
 use native.Mathlib.Nat.{mul-le-mul}
 use native.Mathlib.Omega.{arith}
 use Rattle.ladder.specs.Numbers.{bitsLength, bytesFor}
-use Rattle.refuse.proofs.Laws.{sized-no, sized-yes, in-range}
 use borrow.Author.Needs.{needs}
 use Rattle.refuse.proofs.lengths.bits_length.Statement.{statement}
 use Rattle.refuse.proofs.lengths.bits_length.Tie as tie
 
-in-range-requires : tie.Need-in-range-requires
-in-range-requires c κs = search needs
-
-returns : tie.Need-returns
-returns c = sym (sized-no _ _ _ (sym (c .before .in-range .ensures) ∙ not-true _ (c .if1 .taken)))
-
 mul-result : tie.Need-mul-result
-mul-result c = let r = in-range _ _ (sym (c .before .in-range .ensures) ∙ not-false _ (c .if1 .left)) in omega (arith, mul-le-mul (r .lHigh) (r .dHigh))
+mul-result c = omega (arith, mul-le-mul (c .pre .lHigh) (c .pre .dHigh))
 
 add-result : tie.Need-add-result
-add-result c = let r = in-range _ _ (sym (c .before .in-range .ensures) ∙ not-false _ (c .if1 .left)) in omega (arith, mul-le-mul (r .lHigh) (r .dHigh))
+add-result c = omega (arith, mul-le-mul (c .pre .lHigh) (c .pre .dHigh))
 
-returns-2 : tie.Need-returns-2
+returns : tie.Need-returns
 unfolding bitsLength bytesFor
-returns-2 c = sym (sized-yes _ _ _ (sym (c .before .in-range .ensures) ∙ not-false _ (c .if1 .left)))
+returns c = search needs
 
 pub bits-length-spec : {M : Type 1} → statement M
-bits-length-spec = tie.close (tie.spec in-range-requires returns mul-result add-result returns-2)
+bits-length-spec = tie.close (tie.spec mul-result add-result returns)

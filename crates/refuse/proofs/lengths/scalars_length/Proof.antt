@@ -1,36 +1,24 @@
 -- `scalars_length` meets its contract: in range nothing wraps.
 -- Assumes nothing.
-use mathlib.Core.Path.{sym, _∙_}
-use borrow.Author.Tests.{not-true, not-false}
 use native.Mathlib.Nat.{mul-le-mul}
 use Prim.Native.Nat.{_+_, _/_, _≤_}
 use native.Mathlib.Omega.{arith}
 use Rattle.ladder.specs.Numbers.{scalarsLength, scalarWords}
-use Rattle.refuse.proofs.Laws.{sized-no, sized-yes, in-range}
 use borrow.Author.Needs.{needs}
 use Rattle.refuse.proofs.lengths.scalars_length.Statement.{statement}
 use Rattle.refuse.proofs.lengths.scalars_length.Tie as tie
 
-in-range-requires : tie.Need-in-range-requires
-in-range-requires c κs = search needs
-
-returns : tie.Need-returns
-returns c = sym (sized-no _ _ _ (sym (c .before .in-range .ensures) ∙ not-true _ (c .if1 .taken)))
-
 add-result : tie.Need-add-result
-add-result c = let r = in-range _ _ (sym (c .before .in-range .ensures) ∙ not-false _ (c .if1 .left)) in omega arith
+add-result c = omega (arith, c .pre .lHigh)
 
 mul-result : tie.Need-mul-result
 mul-result c =
-    let r = in-range _ _ (sym (c .before .in-range .ensures) ∙ not-false _ (c .if1 .left)) in
-    let l = c .before .before .args .l in
-    let w : (l + 63) / 64 ≤ 9 = omega (arith, r .lHigh) in
-    omega (arith, mul-le-mul (r .dHigh) w)
+    let w : (c .args .l + 63) / 64 ≤ 9 = omega (arith, c .pre .lHigh) in
+    omega (arith, mul-le-mul (c .pre .dHigh) w)
 
-returns-2 : tie.Need-returns-2
+returns : tie.Need-returns
 unfolding scalarsLength scalarWords
-returns-2 c = sym (sized-yes _ _ _ (sym (c .before .in-range .ensures) ∙ not-false _ (c .if1 .left)))
+returns c = search needs
 
 pub scalars-length-spec : {M : Type 1} → statement M
-scalars-length-spec =
-    tie.close (tie.spec in-range-requires returns add-result mul-result returns-2)
+scalars-length-spec = tie.close (tie.spec add-result mul-result returns)

@@ -13,10 +13,10 @@ use mir.Syntax.{w64}
 use mir.Val.{Fits}
 use Rattle.ladder.specs.Trace.{entryBytes}
 use Rattle.walk.specs.WalkState.{walkState}
-use Rattle.walk.proofs.Additions.{entryAt}
-use Rattle.walk.proofs.Moving.{Reads, moving-reads}
-use Rattle.walk.proofs.SmallSigns.{unit-kept, unit-fits, unit-turned}
-use Rattle.walk.proofs.StepBits.{ones-room}
+use Rattle.bits.proofs.Additions.{entryAt}
+use Rattle.bits.proofs.Moving.{Reads, moving-reads}
+use Rattle.bits.proofs.SmallSigns.{unit-kept, unit-fits, unit-turned}
+use Rattle.bits.proofs.StepBits.{ones-room}
 use Rattle.trace.proofs.Blocks.{block-size}
 use Rattle.trace.proofs.StepBlocks.{Walked, walked-start, walked-room, walked-next, walked-end}
 use Rattle.trace.proofs.block.write_block.Statement.{statement}
@@ -29,9 +29,25 @@ Inv-loop w r out₀ at d old before vector₀ order₀ signs₀ x₀ next₀ k�
 abbrev μ-loop : tie.MeasureT-loop
 μ-loop w r out₀ at d old before vector₀ order₀ signs₀ x₀ next₀ k₀ out vector order signs x next k = d - k
 
--- What the function got, at the loop's head.
+-- The function's entry, from where the ones are counted.
+abbrev entry : tie.After-ones-in Inv-loop μ-loop → tie.Start Inv-loop μ-loop
+entry c = c .before .before .before .before
+
+-- Where they are counted, from where the doubling is written.
+abbrev counted : tie.After-slice-known2 Inv-loop μ-loop → tie.After-ones-in Inv-loop μ-loop
+counted c = c .before .before .before .before
+
+-- The function's entry, from the loop's head.
 abbrev entered : tie.At-loop Inv-loop μ-loop → tie.Start Inv-loop μ-loop
-entered l = l .before .before .before .before .before .before .before .before .before
+entered l = entry (counted (l .before))
+
+-- Where the place's bit is read, from where the vector has its sign.
+abbrev bitRead : tie.After-vector Inv-loop μ-loop → tie.After-bit Inv-loop μ-loop
+bitRead c = c .before .before .before
+
+-- Where it has, from where the addition is written.
+abbrev filled : tie.After-slice-known3 Inv-loop μ-loop → tie.After-vector Inv-loop μ-loop
+filled c = c .before .before .before .before
 
 -- What the place reads.
 read : (c : tie.After-bit Inv-loop μ-loop) → let l = c .before .before in let w = entered l .args .w in
@@ -58,26 +74,26 @@ ones-in-requires c κs = c .before .before .before .pre .0 .high
 write-entry-requires : tie.Need-write-entry-requires Inv-loop μ-loop
 unfolding walkState
 write-entry-requires c κs =
-    let s = c .before .before .before .before .before in
+    let s = entry (c .before) in
     let most : c .before .ones-in .result ≤ 8 =
     omega (arith, c .before .ones-in .ensures, s .pre .0 .high, ones-room (s .args .w .d) (s .args .r) 0 (omega arith)) in
     (s .pre .0 .high, (most, (most, omega (arith, s .pre .1, block-size (s .args .w .d)))))
 
 add-next : tie.Need-add-next Inv-loop μ-loop
 unfolding walkState
-add-next c = omega (arith, c .before .before .before .before .before .before .before .before .pre .0 .high)
+add-next c = omega (arith, entry (counted c) .pre .0 .high)
 
 add-next-2 : tie.Need-add-next-2 Inv-loop μ-loop
 add-next-2 c =
-    let s = c .before .before .before .before .before .before .before .before in
+    let s = entry (counted c) in
     omega (arith, s .pre .1, block-size (s .args .w .d))
 
 loop-holds : tie.Need-loop-holds Inv-loop μ-loop
 unfolding walkState
 loop-holds c =
-    let s = c .before .before .before .before .before .before .before .before in
+    let s = entry (counted c) in
     let same = c .before .before .write-entry .kept in
-    walked-start (s .pre .0) (s .args .r) _ (s .args .at) (omega (arith, s .pre .1)) _ (c .before .before .before .before .ones-in .ensures)
+    walked-start (s .pre .0) (s .args .r) _ (s .args .at) (omega (arith, s .pre .1)) _ (counted c .ones-in .ensures)
 
 bit-requires : tie.Need-bit-requires Inv-loop μ-loop
 unfolding walkState
@@ -126,38 +142,38 @@ array-set-from-vector : tie.Need-array-set-from-vector Inv-loop μ-loop
 array-set-from-vector c = array-copy-out-s (c .before .before .before)
 
 add-k : tie.Need-add-k Inv-loop μ-loop
-add-k c = omega (arith, c .before .before .before .before .loop-test .taken, read (c .before .before .before) .place)
+add-k c = omega (arith, bitRead c .before .loop-test .taken, read (bitRead c) .place)
 
 add-write-entry : tie.Need-add-write-entry Inv-loop μ-loop
-add-write-entry c = omega (arith, room (c .before .before .before), read (c .before .before .before) .place)
+add-write-entry c = omega (arith, room (bitRead c), read (bitRead c) .place)
 
 write-entry-requires-2 : tie.Need-write-entry-requires-2 Inv-loop μ-loop
 unfolding walkState
 write-entry-requires-2 c κs =
-    let b = c .before .before .before .before in
+    let b = bitRead (c .before) in
     let high = read b .place .3 in
     (high, (omega (arith, room b, high), (omega (arith, room b, high), room b .1)))
 
 add-next-3 : tie.Need-add-next-3 Inv-loop μ-loop
 unfolding walkState
-add-next-3 c = omega (arith, entered (c .before .before .before .before .before .before .before .before .before) .pre .0 .high)
+add-next-3 c = omega (arith, entered (bitRead (filled c) .before .before) .pre .0 .high)
 
 add-next-4 : tie.Need-add-next-4 Inv-loop μ-loop
 add-next-4 c =
-    let b = c .before .before .before .before .before .before .before in
+    let b = bitRead (filled c) in
     let l = b .before .before in
     let sum : Fits w64 (l .loop .next + (entered l .args .w .d + 2)) =
     let same : length (l .loop .out) ≡ length (entered l .args .out .now) = l .loop .inv .blocking .long ∙ search needs in
-    omega (arith, room b, l .before .before .before .before .before .before .before .before) in
+    omega (arith, room b, counted (l .before) .before .before .before) in
     sum
 
 loop-less : tie.Need-loop-less Inv-loop μ-loop
-loop-less c = omega (arith, c .before .before .before .before .before .before .before .before .loop-test .taken)
+loop-less c = omega (arith, bitRead (filled c) .before .loop-test .taken)
 
 loop-again : tie.Need-loop-again Inv-loop μ-loop
 unfolding walkState
 loop-again c =
-    let b = c .before .before .before .before .before .before .before in
+    let b = bitRead (filled c) in
     let l = b .before .before in
     let s = entered l in
     let u = read b .unit in
@@ -166,7 +182,7 @@ loop-again c =
     ⊎-elim
     (λ w. rw (w .1) (next 1 (w .0 .taken) _ (unit-turned _ u) _ (c .before .before .write-entry2 .ensures)))
     (λ w. rw (w .1) (next 0 (omega (arith, read b .place, w .0 .left)) _ (unit-kept _ u) _ (c .before .before .write-entry2 .ensures)))
-    (c .before .before .before .before .before .if1 .came)
+    (filled c .before .if1 .came)
 
 same-length : tie.Need-same-length Inv-loop μ-loop
 same-length c = c .before .loop .inv .blocking .long ∙ search needs
@@ -180,7 +196,7 @@ returns c =
     walked-end (s .pre .0) (s .args .r) _ (s .args .at) (l .loop .inv) (search needs) eight (s .args .out .now)
     (l .before .before .before .write-entry .ensures
     ∙ ap (λ h. sets (s .args .out .now) (s .args .at) (entryBytes (entryAt (s .args .w .d) h h (replicate 8 (pos 0)))))
-    (l .before .before .before .before .before .ones-in .ensures))
+    (counted (l .before) .ones-in .ensures))
 
 pub write-block-spec : {M : Type 1} → statement M
 write-block-spec =

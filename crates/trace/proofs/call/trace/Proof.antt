@@ -1,83 +1,74 @@
 -- `trace` keeps its promise: a plan that is not refused can be traced (`can-trace`), and its walk's trace is the plan's (`traced-in`).
 -- Assumes nothing.
-use Prim.Native.Nat.{_-_}
-use mathlib.Core.Path.{sym, subst, _∙_}
-use Rattle.ladder.specs.Numbers.{startLength}
-use Rattle.ladder.specs.Plan.{Plan, startOrder}
+use Prim.Native.Nat.{ℕ}
+use mathlib.Core.Path.{_≡_, sym, _∙_}
+use mathlib.Core.List.{List}
+use Rattle.ladder.specs.Plan.{Plan, planLent, startOrder}
+use Rattle.ladder.specs.Refusals.{traceRefusal}
 use Rattle.ladder.proofs.Operations.{TraceOk, trace-none}
 use Rattle.ladder.proofs.Tests.{refusing-no, refusing-yes}
-use Rattle.walk.proofs.Starting.{started-is}
-use Rattle.trace.specs.Inner.{walkEntries, CanTrace, TraceLeft}
+use Rattle.judge.proofs.Judged.{trace-beside}
+use Rattle.judge.proofs.Starting.{can-start}
 use Rattle.trace.proofs.PlanTrace.{can-trace, traced-in}
 use borrow.Author.Needs.{needs}
 use Rattle.trace.proofs.call.trace.Statement.{statement}
 use Rattle.trace.proofs.call.trace.Tie as tie
 
--- The plan that the call is lent.
-abbrev planIn : tie.Start → Plan
-planIn s = record {
-  d = s .args .d;
-  l = s .args .l;
-  start = s .args .start .now;
-  bits = s .args .bits .now;
-  answer = s .args .row;
-}
+-- The function's entry, from where the refusal is worked out.
+abbrev entry : tie.After-loose-refusal → tie.Start
+entry c = c .before .before .before .before
 
-trace-refusal-requires : tie.Need-trace-refusal-requires
-trace-refusal-requires c κs = search needs
+-- The plan that is lent, and the buffer.
+abbrev lent : tie.After-loose-refusal → Plan
+lent c = let a = entry c .args in planLent (a .d) (a .l) (a .start .now) (a .bits .now) (a .row)
 
-same-length : tie.Need-same-length
-same-length c = search needs
+abbrev buffer : tie.After-loose-refusal → List ℕ
+buffer c = entry c .args .out .now
+
+-- The plan is judged with the trace's buffer beside it.
+judged : (c : tie.After-loose-refusal) → c .loose-refusal .result ≡ traceRefusal (lent c) (buffer c)
+judged c = c .loose-refusal .ensures ∙ trace-beside (lent c) (buffer c)
+
+-- Where nothing is refused, it is accepted, and every buffer has its length.
+asked : (e : tie.Else1) → TraceOk (lent (e .before)) (buffer (e .before))
+asked e = trace-none _ _ .0 (sym (judged (e .before)) ∙ e .if1 .left)
+
+loose-refusal-requires : tie.Need-loose-refusal-requires
+loose-refusal-requires c κs = search needs
 
 returns : tie.Need-returns
 returns c =
     let no = c .if1 .taken in
     record {
-      refusal-is = c .before .trace-refusal .ensures;
+      refusal-is = judged (c .before);
       doublings-are = sym (refusing-yes _ _ _ no);
       additions-are = sym (refusing-yes _ _ _ no);
       trace-is = sym (refusing-yes _ _ _ no);
     }
 
--- Where nothing is refused, it is accepted, and every buffer has its length.
-asked : (e : tie.Else1)
-    → TraceOk (planIn (e .before .before .before .before .before .before)) (e .before .before .before .before .before .before .args .out .now)
-asked e =
-    let s = e .before .before .before .before .before .before in
-    trace-none (planIn s) (s .args .out .now) .0 (sym (e .before .trace-refusal .ensures) ∙ e .if1 .left)
-
 start-walk-requires : tie.Need-start-walk-requires
-unfolding startLength
-start-walk-requires c κs = let ok = asked c in (ok .plan .plan .dHigh, ok .plan .start)
+start-walk-requires c κs = can-start (lent (c .before)) (asked c .plan .plan)
 
 trace-steps-requires : tie.Need-trace-steps-requires
+unfolding startOrder
 trace-steps-requires c κs =
     let e = c .before .before in
-    let p = planIn (e .before .before .before .before .before .before) in
     let ok = asked e in
-    subst (λ w. CanTrace w (p .bits) 0 (p .l) (e .before .before .before .before .before .before .args .out .now))
-    (sym (c .before .start-walk .ensures ∙ started-is (p .d) (p .start) (startOrder p) (ok .plan .plan .columns)))
-    (can-trace p (ok .plan .plan) _ (ok .plan .bits) (ok .traceLong))
+    can-trace (lent (e .before)) (ok .plan .plan) (c .before .start-walk .ensures) (ok .plan .bits) (ok .traceLong)
 
-same-length-2 : tie.Need-same-length-2
-same-length-2 c = search needs
+same-length : tie.Need-same-length
+same-length c = search needs
 
 returns-2 : tie.Need-returns-2
+unfolding startOrder
 returns-2 c =
-    let s = c .before .before .before .before in
-    let e = s .before in
-    let p = planIn (e .before .before .before .before .before .before) in
-    let ok = asked e in
-    let n = c .before .before .trace-steps .result in
-    let out = c .before .before .trace-steps .last .1 .1 .1 .1 .0 in
-    let t =
-    traced-in p (ok .plan .plan) out (n .doublings) (n .additions)
-    (subst (λ w. TraceLeft (walkEntries w (p .bits) 0 (p .l - 0)) out (n .doublings) (n .additions))
-    (s .start-walk .ensures ∙ started-is (p .d) (p .start) (startOrder p) (ok .plan .plan .columns))
-    (c .before .before .trace-steps .ensures)) in
+    let steps = c .before .before in
+    let walk = steps .before .before in
+    let e = walk .before in
+    let t = traced-in (lent (e .before)) (asked e .plan .plan) (walk .start-walk .ensures) (steps .trace-steps .ensures) in
     let yes = e .if1 .left in
     record {
-      refusal-is = e .before .trace-refusal .ensures;
+      refusal-is = judged (e .before);
       doublings-are = t .1 ∙ sym (refusing-no _ _ _ yes);
       additions-are = t .2 ∙ sym (refusing-no _ _ _ yes);
       trace-is = t .0 ∙ sym (refusing-no _ _ _ yes);
@@ -87,10 +78,9 @@ pub trace-spec : {M : Type 1} → statement M
 trace-spec =
     tie.close
     (tie.spec
-    trace-refusal-requires
-    same-length
+    loose-refusal-requires
     returns
     start-walk-requires
     trace-steps-requires
-    same-length-2
+    same-length
     returns-2)

@@ -1,4 +1,4 @@
--- `trace::entry::write_entry` meets its contract. The loop's invariant is `Writing`: the bytes that are left, written
+-- `write_entry` meets its contract. The loop's invariant is `Writing`: the bytes that are left, written
 -- behind what is there, make the entry.
 -- Assumes nothing.
 use Prim.Native.Nat.{_-_}

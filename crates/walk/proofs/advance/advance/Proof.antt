@@ -1,11 +1,11 @@
--- `walk::advance::advance` meets its contract: the two arrays are those of the walk's step (`next-is`).
+-- `advance` meets its contract: the two arrays are those of the walk's step (`next-is`).
 -- Assumes nothing.
 use mathlib.Core.Path.{sym, subst}
 use Rattle.ladder.specs.Walk.{bitsOf}
-use Rattle.walk.specs.Inner.Ready.{Columns}
+use Rattle.bits.specs.Ready.{Columns}
 use Rattle.walk.specs.WalkState.{walkState}
 use Rattle.ladder.proofs.Walk.{length-bitsOf}
-use Rattle.walk.proofs.Stepping.{columns-step, next-is}
+use Rattle.bits.proofs.Stepping.{columns-step, next-is}
 use Rattle.walk.proofs.advance.advance.Statement.{statement}
 use Rattle.walk.proofs.advance.advance.Tie as tie
 

@@ -4,7 +4,7 @@ use mathlib.Core.Path.{sym, _∙_}
 use Rattle.ladder.proofs.Operations.{step-none}
 use Rattle.ladder.proofs.Tests.{refusing-no, refusing-yes}
 use Rattle.walk.specs.WalkState.{walkState}
-use Rattle.walk.proofs.PlanWalk.{ready-walk}
+use Rattle.bits.proofs.PlanWalk.{ready-walk}
 use borrow.Author.Needs.{needs}
 use Rattle.walk.proofs.state.Walk.step.Statement.{statement}
 use Rattle.walk.proofs.state.Walk.step.Tie as tie

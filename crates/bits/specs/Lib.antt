@@ -1,0 +1,4 @@
+-- Only inner contracts need these: nothing here is to be believed.
+pub mod Ready
+pub mod ReadBits
+pub mod WalkBlock

@@ -1,0 +1,2 @@
+-- Laws of lent bytes.
+pub mod Copied

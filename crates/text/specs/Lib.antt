@@ -1,0 +1,2 @@
+-- Only inner contracts need these: nothing here is to be believed.
+pub mod Inner
