@@ -8,20 +8,20 @@ use native.Mathlib.Omega.{arith}
 use lib.IntN.{ℤ, pos}
 use lib.ListN.{length, get_or, take, replicate, length-map, get_or-append}
 use lib.Seq.{take_at}
-use Rattle.ladder.specs.Matrix.{Arrangement, startSigns, orderAfter, signsAfter, IsUnit, Units}
-use Rattle.ladder.specs.Plan.{Plan, startOrder, matrixIn, order_in, signsIn}
+use Rattle.ladder.specs.Matrix.{Arrangement, start_signs, order_after, signs_after, IsUnit, Units}
+use Rattle.ladder.specs.Plan.{Plan, start_order, matrix_in, order_in, signs_in}
 use Rattle.ladder.specs.Walk.{Walk, walk_of}
 use Rattle.ladder.proofs.Stairs.{stairs}
-use Rattle.ladder.proofs.Signs.{length-signsOf, getD-signsOf}
-use Rattle.ladder.proofs.Ladder.{sign-by-lower}
+use Rattle.ladder.proofs.Signs.{length-signs_of, get_or-signs_of}
+use Rattle.ladder.proofs.Ladder.{sign_by_lower}
 use Rattle.ladder.proofs.Walk.{pred-suc}
 use Rattle.ladder.proofs.Refusals.{Accepted, WalkOk}
-use Rattle.ladder.proofs.Demand3.{state-in, signs-in}
+use Rattle.ladder.proofs.Demand3.{state_in, signs_in_lem}
 use Rattle.bits.specs.Ready.{Columns, Ready}
 
 -- A walk state that is not refused can be stepped.
-pub ready-walk : (w : Walk) → 1 ≤ w.d → w.d ≤ 8 → WalkOk w → Ready w
-ready-walk w low high ok = record {
+pub ready_walk : (w : Walk) → 1 ≤ w.d → w.d ≤ 8 → WalkOk w → Ready w
+ready_walk w low high ok = record {
   low = low;
   high = high;
   order = record { columns = ok.places.columns; counted = ok.places.counted };
@@ -39,25 +39,25 @@ columns_of {d} {S} a rest =
     }
 
 module _ (p : Plan) (ok : Accepted p) where
-  signs-unit : (s : ℕ) (rest : List ℤ) → Units p.d (signsIn p s ++ rest)
+  signs-unit : (s : ℕ) (rest : List ℤ) → Units p.d (signs_in p s ++ rest)
   signs-unit s rest j h =
-      let B = matrixIn p s in
-      let many : length (signsIn p s) ≡ p.d = ap length (sym (signs-in p ok s)) ∙ length-signsOf p.d B in
+      let B = matrix_in p s in
+      let many : length (signs_in p s) ≡ p.d = ap length (sym (signs_in_lem p ok s)) ∙ length-signs_of p.d B in
       subst IsUnit
-      (sym (get_or-append (signsIn p s) rest (pos 0) j (omega (arith, many))
-      ∙ ap (λ l. get_or l j (pos 0)) (sym (signs-in p ok s)) ∙ getD-signsOf p.d B j h))
-      (⊎_elim (λ e. inl e.0) (λ e. inr e.0) (sign-by-lower (stairs (state-in p ok s)) j h))
+      (sym (get_or-append (signs_in p s) rest (pos 0) j (omega (arith, many))
+      ∙ ap (λ l. get_or l j (pos 0)) (sym (signs_in_lem p ok s)) ∙ get_or-signs_of p.d B j h))
+      (⊎_elim (λ e. inl e.0) (λ e. inr e.0) (sign_by_lower (stairs (state_in p ok s)) j h))
 
   -- Before every step of an accepted plan the walk can be stepped.
-  pub ready-in : (s : ℕ) → Ready (walk_of p.d (order_in p s) (signsIn p s))
+  pub ready_in : (s : ℕ) → Ready (walk_of p.d (order_in p s) (signs_in p s))
   unfolding walk_of
-  ready-in s = record {
-    low = ok.dLow;
-    high = ok.dHigh;
-    order = columns_of (state-in p ok s).order (replicate (8 - p.d) 0);
+  ready_in s = record {
+    low = ok.d_low;
+    high = ok.d_high;
+    order = columns_of (state_in p ok s).order (replicate (8 - p.d) 0);
     signs = signs-unit s (replicate (8 - p.d) (pos 0));
   }
 
-  pub ready-start : Ready (walk_of p.d (startOrder p) (startSigns p.d))
-  unfolding order_in signsIn orderAfter signsAfter
-  ready-start = ready-in 0
+  pub ready_start : Ready (walk_of p.d (start_order p) (start_signs p.d))
+  unfolding order_in signs_in order_after signs_after
+  ready_start = ready_in 0

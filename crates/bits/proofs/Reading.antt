@@ -12,20 +12,20 @@ use Rattle.ladder.specs.Numbers.{bit_at, bits_at}
 use Rattle.ladder.specs.Walk.{bits_of}
 use Rattle.ladder.proofs.Lists.{tabulate-same}
 use Rattle.ladder.proofs.Fields.{low_bit}
-use Rattle.ladder.proofs.Bits.{bitAt-byte}
+use Rattle.ladder.proofs.Bits.{bit_at_byte}
 use Rattle.ladder.proofs.Walk.{bit_below}
 use Rattle.bits.specs.ReadBits.{ReadBits}
 
 -- Two bytes as one number: bit i, the most significant first, is that of the first byte ..
-first-of-two : (hi lo i : ℕ) → lo < 256 → i < 8 → (hi * 256 + lo) / 2 ^ (15 - i) % 2 ≡ hi / 2 ^ (7 - i) % 2
-first-of-two hi lo i small h =
+first_of_two : (hi lo i : ℕ) → lo < 256 → i < 8 → (hi * 256 + lo) / 2 ^ (15 - i) % 2 ≡ hi / 2 ^ (7 - i) % 2
+first_of_two hi lo i small h =
     let place : 15 - i ≡ 8 + (7 - i) = omega arith in
     rw place
     (ap (λ m. m % 2) (sym (shr-shr (hi * 256 + lo) 8 (7 - i)) ∙ ap (λ m. m / 2 ^ (7 - i)) (high hi 8 small)))
 
 -- .. or from 8 on of the second.
-second-of-two : (hi lo i : ℕ) → lo < 256 → i < 8 → (hi * 256 + lo) / 2 ^ (15 - (8 + i)) % 2 ≡ lo / 2 ^ (7 - i) % 2
-second-of-two hi lo i small h =
+second_of_two : (hi lo i : ℕ) → lo < 256 → i < 8 → (hi * 256 + lo) / 2 ^ (15 - (8 + i)) % 2 ≡ lo / 2 ^ (7 - i) % 2
+second_of_two hi lo i small h =
     let place : 15 - (8 + i) ≡ 7 - i = omega arith in
     rw place (bit_below hi lo 8 (7 - i) small (omega arith))
 
@@ -36,20 +36,20 @@ module _ (bytes : List ℕ) (hi lo q : ℕ) (is-high : hi ≡ get_or bytes q 0) 
     where
       go : Dec (i < 8) → (hi * 256 + lo) / 2 ^ (15 - i) % 2 ≡ bit_at bytes (8 * q + i)
       go (yes l) =
-          first-of-two hi lo i small l ∙ ap (λ b. b / 2 ^ (7 - i) % 2) is-high ∙ sym (bitAt-byte bytes q i l)
+          first_of_two hi lo i small l ∙ ap (λ b. b / 2 ^ (7 - i) % 2) is-high ∙ sym (bit_at_byte bytes q i l)
       go (no l) =
           let k = i - 8 in
           let e : i ≡ 8 + k = omega arith in
           let n : 8 * q + (8 + k) ≡ 8 * (q + 1) + k = omega arith in
           rw e
-          (second-of-two hi lo k small (omega arith) ∙ ap (λ b. b / 2 ^ (7 - k) % 2) is-low
-          ∙ sym (ap (bit_at bytes) n ∙ bitAt-byte bytes (q + 1) k (omega arith)))
+          (second_of_two hi lo k small (omega arith) ∙ ap (λ b. b / 2 ^ (7 - k) % 2) is-low
+          ∙ sym (ap (bit_at bytes) n ∙ bit_at_byte bytes (q + 1) k (omega arith)))
 
   -- The d bits from bit `first` of the first byte on.
-  pub read-two : (d s first : ℕ) → d ≤ 8 → first < 8 → s * d ≡ 8 * q + first
+  pub read_two : (d s first : ℕ) → d ≤ 8 → first < 8 → s * d ≡ 8 * q + first
       → ReadBits d s bytes ((hi * 256 + lo) / 2 ^ (16 - first - d) % 2 ^ d)
   unfolding bits_of bits_at
-  read-two d s first h f e = record {
+  read_two d s first h f e = record {
     bits = tabulate-same d _ _ bit;
     below = mod-lt _ (pow_pos d);
   }

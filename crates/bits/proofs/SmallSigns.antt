@@ -11,11 +11,11 @@ use Rattle.ladder.specs.Matrix.{IsUnit}
 pub unit_kept : (s : ℤ) → IsUnit s → to_z w8 (of_z w8 s) ≡ s
 unit_kept s = ⊎_elim (λ e. rw e) (λ e. rw e)
 
-pub unit-fits : (s : ℤ) → IsUnit s → SFits w8 (pos 0 -ℤ to_z w8 (of_z w8 s))
-unit-fits s = ⊎_elim (λ e. rw e (sfits_lit tt)) (λ e. rw e (sfits_lit tt))
+pub unit_fits : (s : ℤ) → IsUnit s → SFits w8 (pos 0 -ℤ to_z w8 (of_z w8 s))
+unit_fits s = ⊎_elim (λ e. rw e (sfits_lit tt)) (λ e. rw e (sfits_lit tt))
 
-pub unit-turned : (s : ℤ) → IsUnit s → to_z w8 (of_z w8 (pos 0 -ℤ to_z w8 (of_z w8 s))) ≡ neg_ℤ s
-unit-turned s = ⊎_elim (λ e. rw e) (λ e. rw e)
+pub unit_turned : (s : ℤ) → IsUnit s → to_z w8 (of_z w8 (pos 0 -ℤ to_z w8 (of_z w8 s))) ≡ neg_ℤ s
+unit_turned s = ⊎_elim (λ e. rw e) (λ e. rw e)
 
 -- Signs with the same bits are the same.
 pub same_sign : {s z : ℤ} → SFits w8 s → SFits w8 z → of_z w8 s ≡ of_z w8 z → s ≡ z

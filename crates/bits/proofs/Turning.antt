@@ -8,23 +8,23 @@ use native.Mathlib.Omega.{arith}
 use lib.IntN.{ℤ, pos}
 use lib.ListN.{length, get_or, take, set, replicate, length-append, length-set, length-replicate, get_or-replicate, get_or-append, get_or-eq_default}
 use lib.Seq.{length-take-le, get_or-take, get_or-append-add, get_or-set_same, get_or-set_other, ext_get_or}
-use Rattle.ladder.proofs.Tests.{order-at}
+use Rattle.ladder.proofs.Tests.{order_at}
 use Rattle.ladder.specs.Matrix.{turn}
 use Rattle.ladder.specs.Walk.{bits_of}
-use Rattle.ladder.proofs.Order.{place_of, place-once}
+use Rattle.ladder.proofs.Order.{place_of, place_once}
 use Rattle.ladder.proofs.Signs.{turned, turn_at, length-turn}
 use Rattle.bits.specs.Ready.{Columns}
-use Rattle.ladder.proofs.Walk.{length-bitsOf}
+use Rattle.ladder.proofs.Walk.{length-bits_of}
 
 -- The column at place k, counted from 0.
 abbrev pub column : ℕ → List ℕ → ℕ → ℕ
 column d order k = get_or (map pred (take d order)) k 0
 
 -- A place holds a column from 1 to d.
-pub column-at : {d : ℕ} {order : List ℕ} → Columns d order → (k : ℕ) → k < d
+pub column_at : {d : ℕ} {order : List ℕ} → Columns d order → (k : ℕ) → k < d
     → (1 ≤ get_or order k 0) × (get_or order k 0 - 1 ≡ column d order k) × (column d order k < d)
-column-at {d} {order} a k h =
-    let at = order-at (take d order) (record { columns = a.columns; counted = a.counted }) k h in
+column_at {d} {order} a k h =
+    let at = order_at (take d order) (record { columns = a.columns; counted = a.counted }) k h in
     let same = get_or-take d order k 0 h in
     (omega (arith, at), omega (arith, at), at.2)
 
@@ -37,8 +37,8 @@ pub record Turning (d : ℕ) (signs : List ℤ) (order : List ℕ) (n : ℕ) (ne
   pub rest : (j : ℕ) → d ≤ j → get_or new j (pos 0) ≡ pos 0
 
 module _ {d : ℕ} {order : List ℕ} (small : d ≤ 8) (a : Columns d order) (signs : List ℤ) (n : ℕ) where
-  pub turning-start : Turning d signs order n (replicate 8 (pos 0)) 0
-  turning-start = record {
+  pub turning_start : Turning d signs order n (replicate 8 (pos 0)) 0
+  turning_start = record {
     within = omega arith;
     eight = refl;
     filled = λ m h. absurd (omega arith);
@@ -50,10 +50,10 @@ module _ {d : ℕ} {order : List ℕ} (small : d ≤ 8) (a : Columns d order) (s
       zeros j (no h) = get_or-eq_default (replicate 8 (pos 0)) (pos 0) {n = j} (omega arith)
 
   -- The column at place k gets its sign, turned where the bit is 1.
-  pub turning-next : {new : List ℤ} {k : ℕ} → Turning d signs order n new k → k < d → (b : ℕ) → get_or (bits_of d n) k 0 ≡ b → (s : ℤ)
+  pub turning_next : {new : List ℤ} {k : ℕ} → Turning d signs order n new k → k < d → (b : ℕ) → get_or (bits_of d n) k 0 ≡ b → (s : ℤ)
       → s ≡ turned b (get_or signs (get_or order k 0 - 1) (pos 0))
       → Turning d signs order n (set new (get_or order k 0 - 1) s) (k + 1)
-  turning-next {new} {k} t h b p s q = rw (column-at a k h).1 record {
+  turning_next {new} {k} t h b p s q = rw (column_at a k h).1 record {
     within = omega arith;
     eight = length-set new j s ∙ t.eight;
     filled = λ m l. at m l (ℕ_discrete m k);
@@ -64,20 +64,20 @@ module _ {d : ℕ} {order : List ℕ} (small : d ≤ 8) (a : Columns d order) (s
       j = column d order k
 
       e : s ≡ turned (get_or (bits_of d n) k 0) (get_or signs j (pos 0))
-      e = q ∙ ap₂ turned (sym p) (ap (λ i. get_or signs i (pos 0)) (column-at a k h).1)
+      e = q ∙ ap₂ turned (sym p) (ap (λ i. get_or signs i (pos 0)) (column_at a k h).1)
 
       at : (m : ℕ) → m < k + 1 → Dec (m ≡ k)
           → get_or (set new j s) (column d order m) (pos 0) ≡ turned (get_or (bits_of d n) m 0) (get_or signs (column d order m) (pos 0))
       at m l (yes o) =
           rw o (get_or-set_same new j s (pos 0) (omega (arith, t.eight, a.columns.inside k h)) ∙ e)
       at m l (no o) =
-          get_or-set_other new j (column d order m) s (pos 0) (λ e. o (place-once a.columns m k (omega arith) h e))
+          get_or-set_other new j (column d order m) s (pos 0) (λ e. o (place_once a.columns m k (omega arith) h e))
           ∙ t.filled m (omega arith)
 
   -- All places filled, the signs are those that the step gives.
-  pub turning-end : {new : List ℤ} {k : ℕ} → length signs ≡ 8 → Turning d signs order n new k → d ≤ k
+  pub turning_end : {new : List ℤ} {k : ℕ} → length signs ≡ 8 → Turning d signs order n new k → d ≤ k
       → new ≡ turn (take d signs) (map pred (take d order)) (bits_of d n) ++ replicate (8 - d) (pos 0)
-  turning-end {new} {k} long t h =
+  turning_end {new} {k} long t h =
       ext_get_or (pos 0) new (after ++ replicate (8 - d) (pos 0))
       (t.eight ∙ sym (length-append after (replicate (8 - d) (pos 0)) ∙ omega (arith, length-replicate (8 - d) (pos 0), many)))
       (λ i l. at i (dec_lt i d))
@@ -98,7 +98,7 @@ module _ {d : ℕ} {order : List ℕ} (small : d ≤ 8) (a : Columns d order) (s
       placed m b =
           t.filled m (omega arith)
           ∙ ap (turned (get_or (bits_of d n) m 0)) (sym (get_or-take d signs (column d order m) (pos 0) (a.columns.inside m b)))
-          ∙ sym (turn_at (take d signs) S (bits_of d n) m (a.columns.long ∙ sym (length-bitsOf d n)) (omega (arith, a.columns.long))
+          ∙ sym (turn_at (take d signs) S (bits_of d n) m (a.columns.long ∙ sym (length-bits_of d n)) (omega (arith, a.columns.long))
           (a.columns.once (column d order m) (a.columns.inside m b)) (omega (arith, signs-long, a.columns.inside m b)))
 
       at : (i : ℕ) → Dec (i < d) → get_or new i (pos 0) ≡ get_or (after ++ replicate (8 - d) (pos 0)) i (pos 0)

@@ -1,4 +1,4 @@
--- The trace of one step of a walk, by orders and signs and with no matrix. `walk_block` of proofs/WalkBlock.antt says that it is what
+-- The trace of one step of a walk, by orders and signs and with no matrix. `walk_block_lem` of proofs/WalkBlock.antt says that it is what
 -- the matrix gives.
 -- Assumes nothing.
 use Rattle.std.specs.Prelude.{ℕ, List, [], ◌∷◌, ℤ, pos, get_or, set, replicate}
@@ -14,6 +14,6 @@ filled v signs (j ∷ S) (p ∷ ps) =
     record { x = p.x; y = p.y; vector = set v j (get_or signs j (pos 0)) } ∷ filled (set v j (get_or signs j (pos 0))) signs S ps
 
 -- A step's entries, from the signs before it and the order after it: the doubling, whose vector is all 0, and the additions.
-unfoldable pub walkBlock : ℕ → List ℤ → List ℕ → List ℕ → List Entry
-walkBlock d signs S r =
+unfoldable pub walk_block : ℕ → List ℤ → List ℕ → List ℕ → List Entry
+walk_block d signs S r =
     record { x = ones r; y = ones r; vector = replicate d (pos 0) } ∷ filled (replicate d (pos 0)) signs S (additions r)

@@ -1,6 +1,6 @@
 // The order after a step.
 ghost use Rattle.std.specs.Prelude.{◌≡◌, ◌++◌, ◌-◌, ◌≤◌, take, replicate};
-ghost use Rattle.ladder.specs.Matrix.{stepOrder};
+ghost use Rattle.ladder.specs.Matrix.{step_order};
 ghost use Rattle.ladder.specs.Walk.{bits_of};
 
 use crate::number::{bit, ones_in};
@@ -9,7 +9,7 @@ use crate::number::{bit, ones_in};
 // After k bits y is x + k. Places past d are 0.
 pub fn next_order(d: usize, old: [u8; 8], r: u64) -> [u8; 8]
     requires { d ≤ 8 }
-    ensures { result ≡ stepOrder (take d old) (bits_of d r) ++ replicate (8 - d) 0 }
+    ensures { result ≡ step_order (take d old) (bits_of d r) ++ replicate (8 - d) 0 }
 {
     let mut new: [u8; 8] = [0; 8];
     let mut x = ones_in(d, r);

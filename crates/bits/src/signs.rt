@@ -1,7 +1,7 @@
 // Signs: those after a step, and a signed number as a byte.
 ghost use Rattle.std.specs.Prelude.{◌≡◌, ◌++◌, map, pred, ◌-◌, ◌≤◌, pos, take, replicate};
 ghost use Rattle.ladder.specs.Matrix.{turn, Units};
-ghost use Rattle.ladder.specs.Trace.{signedByte};
+ghost use Rattle.ladder.specs.Trace.{signed_byte};
 ghost use Rattle.ladder.specs.Walk.{bits_of};
 ghost use Rattle.bits.specs.Ready.{Columns};
 
@@ -29,7 +29,7 @@ pub fn next_signs(d: usize, signs: [i8; 8], order: [u8; 8], r: u64) -> [i8; 8]
 
 // A signed number as a byte, two's complement.
 pub fn signed_byte(s: i8) -> u8
-    ensures { result ≡ signedByte s }
+    ensures { result ≡ signed_byte s }
 {
     if s < 0 {
         (s as i16 + 256) as u8

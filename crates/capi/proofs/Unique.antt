@@ -34,41 +34,41 @@ use Rattle.capi.specs.Answers.{encoded, walk, stepped, traced, ran, unpacked, li
 use Rattle.capi.specs.Promise.{CheckNumberPromise, BodyPlacePromise}
 
 -- Encode.
-pub encode-unique : {d l : ℕ} {scalars start bits : List ℕ} {r s row rowOther : ℕ} {startAfter startOther bitsAfter bitsOther : List ℕ}
+pub encode_unique : {d l : ℕ} {scalars start bits : List ℕ} {r s row rowOther : ℕ} {startAfter startOther bitsAfter bitsOther : List ℕ}
     → EncodePromise d l scalars start bits (encoded r row) startAfter bitsAfter
     → EncodePromise d l scalars start bits (encoded s rowOther) startOther bitsOther
     → (r ≡ s) × (row ≡ rowOther) × (startAfter ≡ startOther) × (bitsAfter ≡ bitsOther)
-encode-unique x y =
-    let u = encoding.encode-unique x y in
+encode_unique x y =
+    let u = encoding.encode_unique x y in
     (ap (λ (e : Encoded). e.refusal) u.0, ap (λ (e : Encoded). e.row) u.0, u.1, u.2)
 
 -- Decode.
-pub decode-unique : {p : Plan} {values : List ℕ} {r s : ℕ} {valuesAfter valuesOther : List ℕ}
+pub decode_unique : {p : Plan} {values : List ℕ} {r s : ℕ} {valuesAfter valuesOther : List ℕ}
     → DecodePromise p values r valuesAfter → DecodePromise p values s valuesOther → (r ≡ s) × (valuesAfter ≡ valuesOther)
-decode-unique x y = decoding.decode-unique x y
+decode_unique x y = decoding.decode_unique x y
 
 -- Check.
-pub check-unique : {p : Plan} {scalars : List ℕ} {r s said saidOther : ℕ}
+pub check_unique : {p : Plan} {scalars : List ℕ} {r s said saidOther : ℕ}
     → CheckNumberPromise p scalars r said → CheckNumberPromise p scalars s saidOther → (r ≡ s) × (said ≡ saidOther)
-check-unique x y =
-    let u = checking.check-unique x.said-is y.said-is in
-    (ap (λ (a : Checked). a.refusal) u, x.yes-is ∙ ap (λ (a : Checked). cond a.yes 1 0) u ∙ sym y.yes-is)
+check_unique x y =
+    let u = checking.check_unique x.said_is y.said_is in
+    (ap (λ (a : Checked). a.refusal) u, x.yes_is ∙ ap (λ (a : Checked). cond a.yes 1 0) u ∙ sym y.yes_is)
 
 -- Step.
-pub step-unique : {d bits : ℕ} {order : List ℕ} {signs : List ℤ} {r s : ℕ} {orderAfter orderOther : List ℕ} {signsAfter signsOther : List ℤ}
-    → StepPromise (walk d order signs) bits (stepped r (walk d orderAfter signsAfter))
+pub step_unique : {d bits : ℕ} {order : List ℕ} {signs : List ℤ} {r s : ℕ} {order_after orderOther : List ℕ} {signs_after signsOther : List ℤ}
+    → StepPromise (walk d order signs) bits (stepped r (walk d order_after signs_after))
     → StepPromise (walk d order signs) bits (stepped s (walk d orderOther signsOther))
-    → (r ≡ s) × (orderAfter ≡ orderOther) × (signsAfter ≡ signsOther)
-step-unique x y =
-    let u = walking.step-unique x y in
+    → (r ≡ s) × (order_after ≡ orderOther) × (signs_after ≡ signsOther)
+step_unique x y =
+    let u = walking.step_unique x y in
     (ap (λ (a : Stepped). a.refusal) u, ap (λ (a : Stepped). a.walk.order) u, ap (λ (a : Stepped). a.walk.signs) u)
 
 -- Trace.
-pub trace-unique : {p : Plan} {out : List ℕ} {r s doublings doublingsOther additions additionsOther : ℕ} {outAfter outOther : List ℕ}
+pub trace_unique : {p : Plan} {out : List ℕ} {r s doublings doublingsOther additions additionsOther : ℕ} {outAfter outOther : List ℕ}
     → TracePromise p out (traced r doublings additions) outAfter → TracePromise p out (traced s doublingsOther additionsOther) outOther
     → (r ≡ s) × (doublings ≡ doublingsOther) × (additions ≡ additionsOther) × (outAfter ≡ outOther)
-trace-unique x y =
-    let u = tracing.trace-unique x y in (
+trace_unique x y =
+    let u = tracing.trace_unique x y in (
       ap (λ (a : Traced). a.refusal) u.0,
       ap (λ (a : Traced). a.doublings) u.0,
       ap (λ (a : Traced). a.additions) u.0,
@@ -76,13 +76,13 @@ trace-unique x y =
     )
 
 -- A run that leaves the registers wanted ..
-pub run-unique : {p : Plan} {refusal : ℕ} {registers wanted : List ℕ}
-    {r s answer answerOther doublings doublingsOther additions additionsOther : ℕ} {registersAfter registersOther : List ℕ}
-    → RunPromise p refusal registers wanted (ran r answer doublings additions) registersAfter
+pub run_unique : {p : Plan} {refusal : ℕ} {registers wanted : List ℕ}
+    {r s answer answerOther doublings doublingsOther additions additionsOther : ℕ} {registers_after registersOther : List ℕ}
+    → RunPromise p refusal registers wanted (ran r answer doublings additions) registers_after
     → RunPromise p refusal registers wanted (ran s answerOther doublingsOther additionsOther) registersOther
-    → (r ≡ s) × (answer ≡ answerOther) × (doublings ≡ doublingsOther) × (additions ≡ additionsOther) × (registersAfter ≡ registersOther)
-run-unique x y =
-    let u = running.run-unique x y in (
+    → (r ≡ s) × (answer ≡ answerOther) × (doublings ≡ doublingsOther) × (additions ≡ additionsOther) × (registers_after ≡ registersOther)
+run_unique x y =
+    let u = running.run_unique x y in (
       ap (λ (a : Ran). a.refusal) u.0,
       ap (λ (a : Ran). a.answer) u.0,
       ap (λ (a : Ran). a.doublings) u.0,
@@ -91,32 +91,32 @@ run-unique x y =
     )
 
 -- .. the plain run ..
-pub plain-unique : (m : ℕ) (elements : List ℕ) {p : Plan} {registers : List ℕ}
-    {r s answer answerOther doublings doublingsOther additions additionsOther : ℕ} {registersAfter registersOther : List ℕ}
-    → PlainPromise p m elements registers (ran r answer doublings additions) registersAfter
+pub plain_unique : (m : ℕ) (elements : List ℕ) {p : Plan} {registers : List ℕ}
+    {r s answer answerOther doublings doublingsOther additions additionsOther : ℕ} {registers_after registersOther : List ℕ}
+    → PlainPromise p m elements registers (ran r answer doublings additions) registers_after
     → PlainPromise p m elements registers (ran s answerOther doublingsOther additionsOther) registersOther
-    → (r ≡ s) × (answer ≡ answerOther) × (doublings ≡ doublingsOther) × (additions ≡ additionsOther) × (registersAfter ≡ registersOther)
-plain-unique m elements x y = run-unique x y
+    → (r ≡ s) × (answer ≡ answerOther) × (doublings ≡ doublingsOther) × (additions ≡ additionsOther) × (registers_after ≡ registersOther)
+plain_unique m elements x y = run_unique x y
 
 -- .. and the difference run.
-pub difference-unique : (m : ℕ) (elements : List ℕ) {p : Plan} {registers : List ℕ}
-    {r s answer answerOther doublings doublingsOther additions additionsOther : ℕ} {registersAfter registersOther : List ℕ}
-    → DifferencePromise p m elements registers (ran r answer doublings additions) registersAfter
+pub difference_unique : (m : ℕ) (elements : List ℕ) {p : Plan} {registers : List ℕ}
+    {r s answer answerOther doublings doublingsOther additions additionsOther : ℕ} {registers_after registersOther : List ℕ}
+    → DifferencePromise p m elements registers (ran r answer doublings additions) registers_after
     → DifferencePromise p m elements registers (ran s answerOther doublingsOther additionsOther) registersOther
-    → (r ≡ s) × (answer ≡ answerOther) × (doublings ≡ doublingsOther) × (additions ≡ additionsOther) × (registersAfter ≡ registersOther)
-difference-unique m elements x y = run-unique x y
+    → (r ≡ s) × (answer ≡ answerOther) × (doublings ≡ doublingsOther) × (additions ≡ additionsOther) × (registers_after ≡ registersOther)
+difference_unique m elements x y = run_unique x y
 
 -- Pack.
-pub pack-unique : {p : Plan} {file : List ℕ} {r s : ℕ} {fileAfter fileOther : List ℕ}
+pub pack_unique : {p : Plan} {file : List ℕ} {r s : ℕ} {fileAfter fileOther : List ℕ}
     → PackPromise p file r fileAfter → PackPromise p file s fileOther → (r ≡ s) × (fileAfter ≡ fileOther)
-pack-unique x y = filing.pack-unique x y
+pack_unique x y = filing.pack_unique x y
 
 -- Unpack.
-pub unpack-unique : {file : List ℕ} {r s d dOther l lOther row rowOther : ℕ}
+pub unpack_unique : {file : List ℕ} {r s d dOther l lOther row rowOther : ℕ}
     → UnpackPromise file (unpacked r d l row) → UnpackPromise file (unpacked s dOther lOther rowOther)
     → (r ≡ s) × (d ≡ dOther) × (l ≡ lOther) × (row ≡ rowOther)
-unpack-unique x y =
-    let u = filing.unpack-unique x y in (
+unpack_unique x y =
+    let u = filing.unpack_unique x y in (
       ap (λ (a : Unpacked). a.refusal) u,
       ap (λ (a : Unpacked). a.d) u,
       ap (λ (a : Unpacked). a.l) u,
@@ -124,17 +124,17 @@ unpack-unique x y =
     )
 
 -- Body.
-pub body-unique : {file : List ℕ} {r s offset offsetOther size sizeOther : ℕ}
+pub body_unique : {file : List ℕ} {r s offset offsetOther size sizeOther : ℕ}
     → BodyPlacePromise file r offset size → BodyPlacePromise file s offsetOther sizeOther
     → (r ≡ s) × (offset ≡ offsetOther) × (size ≡ sizeOther)
-body-unique x y =
+body_unique x y =
     let n = x.refusal_is ∙ sym y.refusal_is in
-    (n, refusing-same _ _ n x.offset-is y.offset-is, refusing-same _ _ n x.size_is y.size_is)
+    (n, refusing-same _ _ n x.offset_is y.offset_is, refusing-same _ _ n x.size_is y.size_is)
 
 -- Listing.
-pub listing-unique : {file text : List ℕ} {r s size sizeOther : ℕ} {textAfter textOther : List ℕ}
+pub listing_unique : {file text : List ℕ} {r s size sizeOther : ℕ} {textAfter textOther : List ℕ}
     → ListingPromise file text (listed r size) textAfter → ListingPromise file text (listed s sizeOther) textOther
     → (r ≡ s) × (size ≡ sizeOther) × (textAfter ≡ textOther)
-listing-unique x y =
-    let u = listing.listing-unique x y in
+listing_unique x y =
+    let u = listing.listing_unique x y in
     (ap (λ (a : Listed). a.refusal) u.0, ap (λ (a : Listed). a.length) u.0, u.1)

@@ -2,8 +2,8 @@
 -- Assumes nothing.
 use Rattle.std.specs.Prelude.{ℕ, ◌≡◌, Bool, cond, List, length}
 use Rattle.ladder.specs.Plan.{Plan}
-use Rattle.ladder.specs.PlanFile.{bodyPlace, bodyIn}
-use Rattle.ladder.specs.Refusals.{refusing, unpackRefusal}
+use Rattle.ladder.specs.PlanFile.{body_place, body_in}
+use Rattle.ladder.specs.Refusals.{refusing, unpack_refusal}
 use Rattle.checking.specs.Promise.{CheckPromise}
 use Rattle.capi.specs.Answers.{checked}
 
@@ -11,12 +11,12 @@ use Rattle.capi.specs.Answers.{checked}
 -- refusal 0 and 1.
 pub record CheckNumberPromise (p : Plan) (scalars : List ℕ) (refusal yes : ℕ) : Type 0 where
   pub said : Bool
-  pub said-is : CheckPromise p scalars (checked refusal said)
-  pub yes-is : yes ≡ cond said 1 0
+  pub said_is : CheckPromise p scalars (checked refusal said)
+  pub yes_is : yes ≡ cond said 1 0
 
 -- The body's place, of any bytes: unpack's refusal, where the body begins, counted from 0, and how many bytes it has; on refusal zeros. Of
 -- the 16 bytes 01 02 72 D8 02 03 07 00 04 00 00 00 64 6D 75 6C: refusal 0, offset 0, 4 bytes.
 pub record BodyPlacePromise (file : List ℕ) (refusal offset size : ℕ) : Type 0 where
-  pub refusal_is : refusal ≡ unpackRefusal file
-  pub offset-is : offset ≡ refusing refusal 0 (bodyPlace file)
-  pub size_is : size ≡ refusing refusal 0 (length (bodyIn file))
+  pub refusal_is : refusal ≡ unpack_refusal file
+  pub offset_is : offset ≡ refusing refusal 0 (body_place file)
+  pub size_is : size ≡ refusing refusal 0 (length (body_in file))

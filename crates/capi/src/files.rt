@@ -1,5 +1,5 @@
 // The plan file: pack, unpack, the body's place, and the listing.
-ghost use Rattle.ladder.specs.Plan.{planLent};
+ghost use Rattle.ladder.specs.Plan.{plan_lent};
 ghost use Rattle.planfile.specs.Promise.{PackPromise, UnpackPromise};
 ghost use Rattle.listing.specs.Promise.{ListingPromise};
 ghost use Rattle.capi.specs.Answers.{unpacked, listed};
@@ -17,7 +17,7 @@ pub extern "C" fn immarduzh_pack(
     row: u64,
     file: &mut [u8],
 ) -> u64
-    ensures { PackPromise (planLent d l start.now bits.now row) file.old result file.new }
+    ensures { PackPromise (plan_lent d l start.now bits.now row) file.old result file.new }
 {
     plan::pack(d, l, start, bits, row, file)
 }

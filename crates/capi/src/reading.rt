@@ -1,5 +1,5 @@
 // Decode and check.
-ghost use Rattle.ladder.specs.Plan.{planLent};
+ghost use Rattle.ladder.specs.Plan.{plan_lent};
 ghost use Rattle.decode.specs.Promise.{DecodePromise};
 ghost use Rattle.capi.specs.Promise.{CheckNumberPromise};
 
@@ -13,7 +13,7 @@ pub extern "C" fn immarduzh_decode(
     row: u64,
     values: &mut [u64],
 ) -> u64
-    ensures { DecodePromise (planLent d l start.now bits.now row) values.old result values.new }
+    ensures { DecodePromise (plan_lent d l start.now bits.now row) values.old result values.new }
 {
     plan::decode(d, l, start, bits, row, values)
 }
@@ -29,7 +29,7 @@ pub extern "C" fn immarduzh_check(
     scalars: &[u64],
     yes: &mut u64,
 ) -> u64
-    ensures { CheckNumberPromise (planLent d l start.now bits.now row) scalars.now result yes.new }
+    ensures { CheckNumberPromise (plan_lent d l start.now bits.now row) scalars.now result yes.new }
 {
     let r = plan::check(d, l, start, bits, row, scalars);
     *yes = r.yes as u64;

@@ -1,5 +1,5 @@
 // The plain run and the difference run.
-ghost use Rattle.ladder.specs.Plan.{planLent};
+ghost use Rattle.ladder.specs.Plan.{plan_lent};
 ghost use Rattle.run.specs.Promise.{PlainPromise, DifferencePromise};
 ghost use Rattle.capi.specs.Answers.{ran};
 
@@ -18,7 +18,7 @@ pub extern "C" fn immarduzh_plain_run(
     doublings: &mut u64,
     additions: &mut u64,
 ) -> u64
-    ensures { PlainPromise (planLent d l start.now bits.now row) m elements.now registers.old (ran result answer.new doublings.new additions.new) registers.new }
+    ensures { PlainPromise (plan_lent d l start.now bits.now row) m elements.now registers.old (ran result answer.new doublings.new additions.new) registers.new }
 {
     let r = plan::plain_run(d, l, start, bits, row, m, elements, registers);
     *answer = r.answer;
@@ -42,7 +42,7 @@ pub extern "C" fn immarduzh_difference_run(
     doublings: &mut u64,
     additions: &mut u64,
 ) -> u64
-    ensures { DifferencePromise (planLent d l start.now bits.now row) m elements.now registers.old (ran result answer.new doublings.new additions.new) registers.new }
+    ensures { DifferencePromise (plan_lent d l start.now bits.now row) m elements.now registers.old (ran result answer.new doublings.new additions.new) registers.new }
 {
     let r = plan::difference_run(d, l, start, bits, row, m, elements, registers);
     *answer = r.answer;

@@ -1,5 +1,5 @@
 // Step and trace.
-ghost use Rattle.ladder.specs.Plan.{planLent};
+ghost use Rattle.ladder.specs.Plan.{plan_lent};
 ghost use Rattle.walk.specs.Promise.{StepPromise};
 ghost use Rattle.trace.specs.Promise.{TracePromise};
 ghost use Rattle.capi.specs.Answers.{walk, stepped, traced};
@@ -37,7 +37,7 @@ pub extern "C" fn immarduzh_trace(
     doublings: &mut u64,
     additions: &mut u64,
 ) -> u64
-    ensures { TracePromise (planLent d l start.now bits.now row) out.old (traced result doublings.new additions.new) out.new }
+    ensures { TracePromise (plan_lent d l start.now bits.now row) out.old (traced result doublings.new additions.new) out.new }
 {
     let r = plan::trace(d, l, start, bits, row, out);
     *doublings = r.doublings;

@@ -7,38 +7,38 @@ use mathlib.Core.Bool.{true, false}
 use mathlib.Core.List.{List}
 use native.Mathlib.Omega.{arith}
 use lib.ListN.{get_or}
-use Rattle.ladder.specs.Plan.{Plan, answerRow}
-use Rattle.ladder.specs.Refusals.{scalarsIn}
-use Rattle.ladder.proofs.Tests.{says-true, refusing-no, refusing-yes}
-use Rattle.ladder.proofs.FileRefusals.{sameNumbers-says}
-use Rattle.ladder.proofs.Operations.{CheckOk, check-none}
+use Rattle.ladder.specs.Plan.{Plan, answer_row}
+use Rattle.ladder.specs.Refusals.{scalars_in}
+use Rattle.ladder.proofs.Tests.{says_true, refusing_no, refusing_yes}
+use Rattle.ladder.proofs.FileRefusals.{same_numbers_says}
+use Rattle.ladder.proofs.Operations.{CheckOk, check_none}
 use Rattle.checking.specs.Promise.{CheckPromise}
 use Rattle.checking.specs.declared.call.Checked.{Checked}
-use Rattle.checking.proofs.Equality.{lists-same}
+use Rattle.checking.proofs.Equality.{lists_same}
 
 -- ---- refused or not
 
 module _ {p : Plan} {scalars : List ℕ} {r : Checked} (promise : CheckPromise p scalars r) where
   -- Check's refusal is 0 exactly where the plan, the scalars and the buffers are what it asks ..
-  pub check-accepts : r.refusal ≡ 0 ↔ CheckOk p scalars
-  check-accepts = subst (λ n. n ≡ 0 ↔ CheckOk p scalars) (sym promise.refusal_is) (check-none p scalars)
+  pub check_accepts : r.refusal ≡ 0 ↔ CheckOk p scalars
+  check_accepts = subst (λ n. n ≡ 0 ↔ CheckOk p scalars) (sym promise.refusal_is) (check_none p scalars)
 
   -- .. then the refusal is 0 and it says yes exactly where the answer row is the scalars ..
-  pub check-accepted : CheckOk p scalars → (r.refusal ≡ 0) × (r.yes ≡ true ↔ answerRow p ≡ scalarsIn p.d p.l scalars)
-  check-accepted ok =
-      let none = check-accepts.1 ok in
-      let said = promise.yes-is ∙ refusing-no _ _ _ none in
-      let test = sameNumbers-says (answerRow p) (scalarsIn p.d p.l scalars) in (
+  pub check_accepted : CheckOk p scalars → (r.refusal ≡ 0) × (r.yes ≡ true ↔ answer_row p ≡ scalars_in p.d p.l scalars)
+  check_accepted ok =
+      let none = check_accepts.1 ok in
+      let said = promise.yes_is ∙ refusing_no _ _ _ none in
+      let test = same_numbers_says (answer_row p) (scalars_in p.d p.l scalars) in (
         none,
-        (λ e. says-true test (sym said ∙ e), λ e. said ∙ sym (lists-same (answerRow p) (scalarsIn p.d p.l scalars) e)),
+        (λ e. says_true test (sym said ∙ e), λ e. said ∙ sym (lists_same (answer_row p) (scalars_in p.d p.l scalars) e)),
       )
 
   -- .. an entry of 2^l equals none ..
-  pub check-full : CheckOk p scalars → (j : ℕ) → j < p.d → get_or (answerRow p) j 0 ≡ 2 ^ p.l → r.yes ≡ true → ⊥
-  check-full ok j h full said =
-      let same = (check-accepted ok).1.0 said in
+  pub check_full : CheckOk p scalars → (j : ℕ) → j < p.d → get_or (answer_row p) j 0 ≡ 2 ^ p.l → r.yes ≡ true → ⊥
+  check_full ok j h full said =
+      let same = (check_accepted ok).1.0 said in
       omega (arith, ok.fit j h, ap (λ ns. get_or ns j 0) same)
 
   -- .. and on refusal it says no.
-  pub check-refused : r.refusal ≢ 0 → r.yes ≡ false
-  check-refused some = promise.yes-is ∙ refusing-yes _ _ _ some
+  pub check_refused : r.refusal ≢ 0 → r.yes ≡ false
+  check_refused some = promise.yes_is ∙ refusing_yes _ _ _ some

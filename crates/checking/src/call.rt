@@ -1,7 +1,7 @@
 // The public call `check`.
 ghost use Rattle.std.specs.Prelude.{◌≡◌};
-ghost use Rattle.ladder.specs.Plan.{planLent};
-ghost use Rattle.ladder.specs.Refusals.{checkRefusal};
+ghost use Rattle.ladder.specs.Plan.{plan_lent};
+ghost use Rattle.ladder.specs.Refusals.{check_refusal};
 ghost use Rattle.checking.specs.Promise.{CheckPromise};
 
 use crate::row::row_is;
@@ -19,7 +19,7 @@ pub struct Checked {
 // The refusal of check: 1, 2, 3, 5, 6, 4, where 3 covers the start order, the bits and the scalars. These are looked at only where
 // the rest is right.
 fn check_refusal(d: u64, l: u64, start: &[u8], bits: &[u8], row: u64, scalars: &[u64]) -> u64
-    ensures { result ≡ checkRefusal (planLent d l start.now bits.now row) scalars.now }
+    ensures { result ≡ check_refusal (plan_lent d l start.now bits.now row) scalars.now }
 {
     let early = loose_refusal(d, l, start, bits, row, Beside::Scalars(scalars.len()));
     if early != OK {
@@ -30,7 +30,7 @@ fn check_refusal(d: u64, l: u64, start: &[u8], bits: &[u8], row: u64, scalars: &
 
 // Says whether the answer row of the plan's last matrix is the d scalars, lent in ceil(l / 64) words each; no where it refuses.
 pub fn check(d: u64, l: u64, start: &[u8], bits: &[u8], row: u64, scalars: &[u64]) -> Checked
-    ensures { CheckPromise (planLent d l start.now bits.now row) scalars.now result }
+    ensures { CheckPromise (plan_lent d l start.now bits.now row) scalars.now result }
 {
     let refusal = check_refusal(d, l, start, bits, row, scalars);
     if refusal != OK {

@@ -1,8 +1,8 @@
 // Whether a row of a plan's last matrix is the scalars.
 ghost use Rattle.std.specs.Prelude.{◌*◌, ◌≡◌, length};
-ghost use Rattle.ladder.specs.Numbers.{valueWords};
-ghost use Rattle.walk.specs.WalkState.{walkState};
-ghost use Rattle.checking.specs.Inner.{Checkable, rowSame};
+ghost use Rattle.ladder.specs.Numbers.{value_words};
+ghost use Rattle.walk.specs.WalkState.{walk_state};
+ghost use Rattle.checking.specs.Inner.{Checkable, row_same};
 
 use crate::same::same_values;
 use scalars::scalar_words;
@@ -18,8 +18,8 @@ fn row_is_in(
     scalars: &[u64],
     values: &mut [u64],
 ) -> bool
-    requires { Checkable (walkState start) l bits.now row scalars.now × (length values.old ≡ start.d * valueWords l) }
-    ensures { result ≡ rowSame (walkState start) l bits.now row scalars.now }
+    requires { Checkable (walk_state start) l bits.now row scalars.now × (length values.old ≡ start.d * value_words l) }
+    ensures { result ≡ row_same (walk_state start) l bits.now row scalars.now }
 {
     let d = start.d as usize;
     answer_values(start, bits, l, row, values);
@@ -28,8 +28,8 @@ fn row_is_in(
 
 // The same, with words of its own. Eight values of ten words are the most there can be.
 pub fn row_is(start: Walk, bits: &[u8], l: usize, row: usize, scalars: &[u64]) -> bool
-    requires { Checkable (walkState start) l bits.now row scalars.now }
-    ensures { result ≡ rowSame (walkState start) l bits.now row scalars.now }
+    requires { Checkable (walk_state start) l bits.now row scalars.now }
+    ensures { result ≡ row_same (walk_state start) l bits.now row scalars.now }
 {
     let d = start.d as usize;
     let n = d * value_words(l);

@@ -1,6 +1,6 @@
 // Whether decoded values are the scalars. A value can have one word more than a scalar.
 ghost use Rattle.std.specs.Prelude.{◌*◌, ◌≤◌, ◌≡◌, eqb, length};
-ghost use Rattle.ladder.specs.Numbers.{number_of, numbersOf};
+ghost use Rattle.ladder.specs.Numbers.{number_of, numbers_of};
 ghost use Rattle.ladder.specs.Refusals.{same_numbers};
 
 use lent::word;
@@ -23,7 +23,7 @@ fn same_value(value: &[u64], scalar: &[u64]) -> bool
 // Whether d values of k words are d scalars of n words.
 pub fn same_values(d: usize, k: usize, n: usize, values: &[u64], scalars: &[u64]) -> bool
     requires { (d ≤ 8) × ((k ≤ 10) × ((n ≤ k) × ((length values.now ≡ d * k) × (length scalars.now ≡ d * n)))) }
-    ensures { result ≡ same_numbers (numbersOf d k values.now) (numbersOf d n scalars.now) }
+    ensures { result ≡ same_numbers (numbers_of d k values.now) (numbers_of d n scalars.now) }
 {
     let mut j: usize = 0;
     while j < d {

@@ -1,22 +1,22 @@
 -- The difference run under way: the walk state after the steps taken, and the registers that the rule has after them.
 -- Assumes nothing.
 use Rattle.std.proofs.Common.{◌≡◌, ℕ, suc, pred, ◌+◌, ◌*◌, ◌<◌, ◌≤◌, List, map, length, take, sym, refl, ap, ◌∙◌, subst, ap₂, add-one, arith, length-take-le, get_or-take}
-use Rattle.ladder.proofs.Bits.{length-bitsAt, bits-room}
-use Rattle.ladder.specs.Matrix.{Arrangement, signsOf, matrixAfter, orderAfter, signsAfter}
+use Rattle.ladder.proofs.Bits.{length-bits_at, bits_room}
+use Rattle.ladder.specs.Matrix.{Arrangement, signs_of, matrix_after, order_after, signs_after}
 use Rattle.ladder.specs.Numbers.{bits_at}
-use Rattle.ladder.specs.Registers.{stepRegisters, differenceRule, registersAfter}
+use Rattle.ladder.specs.Registers.{step_registers, difference_rule, registers_after}
 use Rattle.ladder.specs.Trace.{Entry, block}
-use Rattle.ladder.specs.Walk.{Walk, bits_of, walk_of, order_of, walkSigns, stepWalk}
-use Rattle.ladder.proofs.Ladder.{signs-after, state-after}
-use Rattle.ladder.proofs.Walk.{order-of-walk, signs-of-walk, length-orderAfter, length-signsAfter}
+use Rattle.ladder.specs.Walk.{Walk, bits_of, walk_of, order_of, walk_signs, step_walk}
+use Rattle.ladder.proofs.Ladder.{signs_after_lem, state_after}
+use Rattle.ladder.proofs.Walk.{order_of_walk, signs_of_walk, length-order_after, length-signs_after}
 use Rattle.bits.specs.Ready.{Ready}
 use Rattle.bits.specs.ReadBits.{ReadBits}
-use Rattle.bits.specs.WalkBlock.{walkBlock}
-use Rattle.bits.proofs.Stepping.{ready-step, walk-on}
-use Rattle.bits.proofs.WalkBlock.{walk_block}
+use Rattle.bits.specs.WalkBlock.{walk_block}
+use Rattle.bits.proofs.Stepping.{ready_step, walk_on}
+use Rattle.bits.proofs.WalkBlock.{walk_block_lem}
 use Rattle.registers.specs.Inner.{Elements}
-use Rattle.difference.specs.Inner.{DifferenceStep, DifferenceSteps, differenceOf}
-use Rattle.difference.proofs.Differences.{block-registers, registers-below}
+use Rattle.difference.specs.Inner.{DifferenceStep, DifferenceSteps, difference_of}
+use Rattle.difference.proofs.Differences.{block_registers, registers_below}
 
 -- Before step s of l.
 pub record DifferenceRunning (m : ℕ) (w₀ : Walk) (l : ℕ) (bytes elements start : List ℕ) (w : Walk) (regs : List ℕ) (s : ℕ) : Type 0 where
@@ -24,10 +24,10 @@ pub record DifferenceRunning (m : ℕ) (w₀ : Walk) (l : ℕ) (bytes elements s
   pub nine : length regs ≡ 9
   pub ready : Ready w
   pub walk : w
-      ≡ walk_of w₀.d (orderAfter (order_of w₀) (bits_at w₀.d bytes) s) (signsAfter w₀.d (order_of w₀) (bits_at w₀.d bytes) s)
+      ≡ walk_of w₀.d (order_after (order_of w₀) (bits_at w₀.d bytes) s) (signs_after w₀.d (order_of w₀) (bits_at w₀.d bytes) s)
   pub below : Elements m (suc w₀.d) regs
   pub registers : take (suc w₀.d) regs
-      ≡ registersAfter (differenceRule m elements) w₀.d (order_of w₀) (bits_at w₀.d bytes) (take (suc w₀.d) start) s
+      ≡ registers_after (difference_rule m elements) w₀.d (order_of w₀) (bits_at w₀.d bytes) (take (suc w₀.d) start) s
 
 module _ {m : ℕ} {w₀ : Walk} {l : ℕ} {bytes elements start : List ℕ} (asks : DifferenceSteps m w₀ l bytes elements start) where
   abbrev d : ℕ
@@ -43,9 +43,9 @@ module _ {m : ℕ} {w₀ : Walk} {l : ℕ} {bytes elements start : List ℕ} (as
   unfolding order_of
   arranged = asks.ready.order.columns
 
-  pub running-start : length start ≡ 9 → DifferenceRunning m w₀ l bytes elements start w₀ start 0
-  unfolding orderAfter signsAfter registersAfter
-  running-start nine = record {
+  pub running_start : length start ≡ 9 → DifferenceRunning m w₀ l bytes elements start w₀ start 0
+  unfolding order_after signs_after registers_after
+  running_start nine = record {
     within = omega arith;
     nine = nine;
     ready = asks.ready;
@@ -61,80 +61,80 @@ module _ {m : ℕ} {w₀ : Walk} {l : ℕ} {bytes elements start : List ℕ} (as
     width = ap (λ v. v.d) t.walk
 
     -- The bits of the step are there.
-    pub bits-there : s < l → (d ≤ 8) × ((s < 576) × (s * d + d ≤ 8 * length bytes))
-    bits-there h = (asks.ready.high, (omega (arith, asks.lHigh), bits-room d l s (length bytes) h asks.bits))
+    pub bits_there : s < l → (d ≤ 8) × ((s < 576) × (s * d + d ≤ 8 * length bytes))
+    bits_there h = (asks.ready.high, (omega (arith, asks.l_high), bits_room d l s (length bytes) h asks.bits))
 
     -- What the step asks of the first d + 1 of nine registers.
-    pub step-asks : DifferenceStep m w elements (take (d + 1) regs)
-    step-asks = rw (add-one d) record {
+    pub step_asks : DifferenceStep m w elements (take (d + 1) regs)
+    step_asks = rw (add-one d) record {
       ready = t.ready;
-      mHigh = asks.mHigh;
+      m_high = asks.m_high;
       long = asks.long ∙ sym width;
       below = subst (λ i. Elements m i elements) (sym width) asks.below;
       rows = length-take-le (suc d) regs (omega (arith, asks.ready.high, t.nine)) ∙ ap suc (sym width);
       registers = subst (λ i. Elements m (suc i) (take (suc d) regs)) (sym width) (λ i h. rw (get_or-take (suc d) regs i 0 h) (t.below i h));
     }
 
-    module _ (n : ℕ) (next : Walk) (e : next ≡ stepWalk w n) where
+    module _ (n : ℕ) (next : Walk) (e : next ≡ step_walk w n) where
       -- The step's entries, by the arrays before and after it.
       abbrev entries : List Entry
-      entries = walkBlock d (take d w.signs) (map pred (take d next.order)) (bits_of d n)
+      entries = walk_block d (take d w.signs) (map pred (take d next.order)) (bits_of d n)
 
       module _ (b : ReadBits d s bytes n) where
         -- The walk state after one step more.
-        walk-next : next ≡ walk_of d (orderAfter S r (suc s)) (signsAfter d S r (suc s))
-        walk-next = e ∙ ap (λ v. stepWalk v n) t.walk ∙ walk-on d S bytes s n arranged.long b
+        walk-next : next ≡ walk_of d (order_after S r (suc s)) (signs_after d S r (suc s))
+        walk-next = e ∙ ap (λ v. step_walk v n) t.walk ∙ walk_on d S bytes s n arranged.long b
 
         -- The step's entries are those that the matrix before it has.
-        step_block : entries ≡ block d (matrixAfter d S r s) (r s)
-        unfolding orderAfter order_of walkSigns walk_of
+        step_block : entries ≡ block d (matrix_after d S r s) (r s)
+        unfolding order_after order_of walk_signs walk_of
         step_block =
-            let before : take d w.signs ≡ signsOf d (matrixAfter d S r s) =
+            let before : take d w.signs ≡ signs_of d (matrix_after d S r s) =
             ap (λ v. take d v.signs) t.walk
-            ∙ signs-of-walk d (orderAfter S r s) (signsAfter d S r s) (length-signsAfter d S r s)
-            ∙ sym (signs-after arranged r (length-bitsAt d bytes) s) in
-            let after : map pred (take d next.order) ≡ orderAfter S r (suc s) =
+            ∙ signs_of_walk d (order_after S r s) (signs_after d S r s) (length-signs_after d S r s)
+            ∙ sym (signs_after_lem arranged r (length-bits_at d bytes) s) in
+            let after : map pred (take d next.order) ≡ order_after S r (suc s) =
             ap (λ v. map pred (take d v.order)) walk-next
-            ∙ order-of-walk d (orderAfter S r (suc s)) (signsAfter d S r (suc s))
-            (length-orderAfter d S r arranged.long (length-bitsAt d bytes) (suc s)) in
-            ap₂ (λ σ T. walkBlock d σ T (bits_of d n)) before after
-            ∙ ap (walkBlock d (signsOf d (matrixAfter d S r s)) (orderAfter S r (suc s))) b.bits
-            ∙ walk_block (state-after arranged r (length-bitsAt d bytes) s) (r s) (length-bitsAt d bytes s)
+            ∙ order_of_walk d (order_after S r (suc s)) (signs_after d S r (suc s))
+            (length-order_after d S r arranged.long (length-bits_at d bytes) (suc s)) in
+            ap₂ (λ σ T. walk_block d σ T (bits_of d n)) before after
+            ∙ ap (walk_block d (signs_of d (matrix_after d S r s)) (order_after S r (suc s))) b.bits
+            ∙ walk_block_lem (state_after arranged r (length-bits_at d bytes) s) (r s) (length-bits_at d bytes s)
 
         -- One step more, with its registers.
         running_more : s < l → (new : List ℕ) → length new ≡ 9
-            → take (suc d) new ≡ map (differenceOf m elements (take (suc d) regs)) entries
+            → take (suc d) new ≡ map (difference_of m elements (take (suc d) regs)) entries
             → DifferenceRunning m w₀ l bytes elements start next new (s + 1)
-        unfolding registersAfter
+        unfolding registers_after
         running_more h new nine f = rw (add-one s) record {
           within = h;
           nine = nine;
-          ready = subst Ready (sym e) (ready-step t.ready n);
+          ready = subst Ready (sym e) (ready_step t.ready n);
           walk = walk-next;
           below = λ i q.
-              rw (sym (get_or-take (suc d) new i 0 q), f) (registers-below m elements (take (suc d) regs) entries i);
+              rw (sym (get_or-take (suc d) new i 0 q), f) (registers_below m elements (take (suc d) regs) entries i);
           registers =
-              f ∙ ap (map (differenceOf m elements (take (suc d) regs))) step_block
-              ∙ block-registers m elements d (matrixAfter d S r s) (take (suc d) regs) (r s)
-              ∙ ap (λ q. stepRegisters (differenceRule m elements) d (matrixAfter d S r s) q (r s)) t.registers;
+              f ∙ ap (map (difference_of m elements (take (suc d) regs))) step_block
+              ∙ block_registers m elements d (matrix_after d S r s) (take (suc d) regs) (r s)
+              ∙ ap (λ q. step_registers (difference_rule m elements) d (matrix_after d S r s) q (r s)) t.registers;
         }
 
-        pub running-next : s < l → (new : List ℕ) → length new ≡ 9
+        pub running_next : s < l → (new : List ℕ) → length new ≡ 9
             → take (suc w.d) new
-            ≡ map (differenceOf m elements (take (d + 1) regs))
-            (walkBlock w.d (take w.d w.signs) (map pred (take w.d next.order)) (bits_of w.d n))
+            ≡ map (difference_of m elements (take (d + 1) regs))
+            (walk_block w.d (take w.d w.signs) (map pred (take w.d next.order)) (bits_of w.d n))
             → DifferenceRunning m w₀ l bytes elements start next new (s + 1)
-        running-next h new nine f =
+        running_next h new nine f =
             running_more h new nine
             (subst
             (λ i. take (suc i) new
-            ≡ map (differenceOf m elements (take (suc d) regs))
-            (walkBlock i (take i w.signs) (map pred (take i next.order)) (bits_of i n)))
+            ≡ map (difference_of m elements (take (suc d) regs))
+            (walk_block i (take i w.signs) (map pred (take i next.order)) (bits_of i n)))
             width (rw (add-one d) at f))
 
     -- No step left.
-    pub running-end : l ≤ s
-        → take (suc d) regs ≡ registersAfter (differenceRule m elements) d S r (take (suc d) start) l
-    running-end h =
+    pub running_end : l ≤ s
+        → take (suc d) regs ≡ registers_after (difference_rule m elements) d S r (take (suc d) start) l
+    running_end h =
         t.registers
-        ∙ ap (registersAfter (differenceRule m elements) d S r (take (suc d) start)) (omega (arith, t.within))
+        ∙ ap (registers_after (difference_rule m elements) d S r (take (suc d) start)) (omega (arith, t.within))

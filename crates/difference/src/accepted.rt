@@ -1,8 +1,8 @@
 // The difference run of what is not refused.
 ghost use Rattle.std.specs.Prelude.{◌≡◌};
-ghost use Rattle.ladder.specs.Plan.{planLent};
-ghost use Rattle.ladder.specs.Refusals.{runRefusal};
-ghost use Rattle.ladder.specs.Registers.{differenceRegisters};
+ghost use Rattle.ladder.specs.Plan.{plan_lent};
+ghost use Rattle.ladder.specs.Refusals.{run_refusal};
+ghost use Rattle.ladder.specs.Registers.{difference_registers};
 ghost use Rattle.registers.specs.Inner.{Left};
 
 use crate::steps::difference_steps;
@@ -22,8 +22,8 @@ pub fn difference_accepted(
     elements: &[u64],
     registers: &mut [u64],
 ) -> Ran
-    requires { runRefusal (planLent d l start.now bits.now row) m elements.now registers.old ≡ 0 }
-    ensures { Left (planLent d l start.now bits.now row) (differenceRegisters (planLent d l start.now bits.now row) m elements.now l) result registers.new }
+    requires { run_refusal (plan_lent d l start.now bits.now row) m elements.now registers.old ≡ 0 }
+    ensures { Left (plan_lent d l start.now bits.now row) (difference_registers (plan_lent d l start.now bits.now row) m elements.now l) result registers.new }
 {
     let first = start_registers(m, start, elements);
     let w = start_walk(d, start);

@@ -1,5 +1,5 @@
 // The public call `difference_run`.
-ghost use Rattle.ladder.specs.Plan.{planLent};
+ghost use Rattle.ladder.specs.Plan.{plan_lent};
 ghost use Rattle.run.specs.Promise.{DifferencePromise};
 
 use crate::accepted::difference_accepted;
@@ -18,7 +18,7 @@ pub fn difference_run(
     elements: &[u64],
     registers: &mut [u64],
 ) -> Ran
-    ensures { DifferencePromise (planLent d l start.now bits.now row) m elements.now registers.old result registers.new }
+    ensures { DifferencePromise (plan_lent d l start.now bits.now row) m elements.now registers.old result registers.new }
 {
     let refusal = run_refusal(d, l, start, bits, row, m, elements, registers);
     if refusal != OK {

@@ -1,11 +1,11 @@
 // The difference run: each new register is made from one old one and a difference vector.
 ghost use Rattle.std.specs.Prelude.{◌≡◌, suc, pred, map, take};
 ghost use Rattle.ladder.specs.Numbers.{bits_at};
-ghost use Rattle.ladder.specs.Registers.{differenceRule, registersAfter};
-ghost use Rattle.ladder.specs.Walk.{bits_of, order_of, stepWalk};
-ghost use Rattle.bits.specs.WalkBlock.{walkBlock};
-ghost use Rattle.walk.specs.WalkState.{walkState};
-ghost use Rattle.difference.specs.Inner.{DifferenceStep, DifferenceSteps, differenceOf};
+ghost use Rattle.ladder.specs.Registers.{difference_rule, registers_after};
+ghost use Rattle.ladder.specs.Walk.{bits_of, order_of, step_walk};
+ghost use Rattle.bits.specs.WalkBlock.{walk_block};
+ghost use Rattle.walk.specs.WalkState.{walk_state};
+ghost use Rattle.difference.specs.Inner.{DifferenceStep, DifferenceSteps, difference_of};
 
 use crate::addition::difference_add;
 use bits::{bit, ones_in, step_bits};
@@ -22,8 +22,8 @@ pub struct Held {
 // One step with the bits r. Each addition fills in one sign more, as it is before the step: that of the column at the next place of the new
 // order. Of the old registers it reads that of row x alone.
 pub fn difference_step(m: u64, w: Walk, r: u64, elements: &[u64], old: &[u64]) -> Held
-    requires { DifferenceStep m (walkState w) elements.now old.now }
-    ensures { (walkState result.walk ≡ stepWalk (walkState w) r) × (take (suc w.d) result.regs ≡ map (differenceOf m elements.now old.now) (walkBlock w.d (take w.d w.signs) (map pred (take w.d result.walk.order)) (bits_of w.d r))) }
+    requires { DifferenceStep m (walk_state w) elements.now old.now }
+    ensures { (walk_state result.walk ≡ step_walk (walk_state w) r) × (take (suc w.d) result.regs ≡ map (difference_of m elements.now old.now) (walk_block w.d (take w.d w.signs) (map pred (take w.d result.walk.order)) (bits_of w.d r))) }
 {
     let d = w.d as usize;
     let places = w.order;
@@ -68,8 +68,8 @@ pub fn difference_steps(
     elements: &[u64],
     start: [u64; 9],
 ) -> [u64; 9]
-    requires { DifferenceSteps m (walkState w) l bits.now elements.now start }
-    ensures { take (suc w.d) result ≡ registersAfter (differenceRule m elements.now) w.d (order_of (walkState w)) (bits_at w.d bits.now) (take (suc w.d) start) l }
+    requires { DifferenceSteps m (walk_state w) l bits.now elements.now start }
+    ensures { take (suc w.d) result ≡ registers_after (difference_rule m elements.now) w.d (order_of (walk_state w)) (bits_at w.d bits.now) (take (suc w.d) start) l }
 {
     let d = w.d as usize;
     let mut walk = w;

@@ -11,66 +11,66 @@ use lib.Seq.{drop-length}
 use lib.Bits.{bit_xor}
 use lib.Pow.{pow_pos}
 use Rattle.ladder.specs.Lists.{tabulate, joined}
-use Rattle.ladder.specs.Numbers.{numbersOf, scalarWords, packBits, bytesFor, bitsLength}
+use Rattle.ladder.specs.Numbers.{numbers_of, scalar_words, pack_bits, bytes_for, bits_length}
 use Rattle.ladder.specs.Matrix.{Arrangement}
-use Rattle.ladder.specs.Encoding.{deal, rearrange, orderToGo, encodedStart, encodedBits}
+use Rattle.ladder.specs.Encoding.{deal, rearrange, order_to_go, encoded_start, encoded_bits}
 use Rattle.ladder.specs.Walk.{bits_of}
 use Rattle.ladder.proofs.Lists.{length-joined}
-use Rattle.ladder.proofs.Bits.{joined-below}
-use Rattle.ladder.proofs.Encoding.{order-to-go, length-encodedBits, encodedBits-below}
+use Rattle.ladder.proofs.Bits.{joined_below}
+use Rattle.ladder.proofs.Encoding.{order_to_go_lem, length-encoded_bits, encoded_bits_below}
 use Rattle.scalars.specs.Inner.{Fitting, gathered}
 use Rattle.encode.specs.declared.packing.Packing.{Packing}
-use Rattle.encode.specs.Inner.Order.{ColumnsIn, dealtBy}
-use Rattle.encode.specs.Inner.Packing.{bitsIn, Open, Room, Put}
-use Rattle.encode.proofs.Dealt.{dealt-gathered, arranged-columns}
+use Rattle.encode.specs.Inner.Order.{ColumnsIn, dealt_by}
+use Rattle.encode.specs.Inner.Packing.{bits_in, Open, Room, Put}
+use Rattle.encode.proofs.Dealt.{dealt-gathered, arranged_columns}
 use Rattle.encode.proofs.Written.{packed}
 
 -- The bits of m steps, the last ones, are written or held, and the filling zeros after them. `ks` are the scalars, E is the end order.
 pub record Behind (d l : ℕ) (ks E : List ℕ) (m : ℕ) (bytes order : List ℕ) (p : Packing) (below : ℕ) : Type 0 where
   pub upto : m ≤ l
-  pub arranged : take d order ≡ orderToGo l ks E m
+  pub arranged : take d order ≡ order_to_go l ks E m
   pub bits : below ≡ gathered ks m
   pub left : 8 * p.at ≡ (l - m) * d + p.held
   pub state : Open p bytes
-  pub long : length bytes ≡ bitsLength d l
+  pub long : length bytes ≡ bits_length d l
   pub small : (i : ℕ) → get_or bytes i 0 < 256
   pub filling : ℕ
-  pub written : joined (l - m) (encodedBits l ks E) ++ bitsIn p bytes ≡ joined l (encodedBits l ks E) ++ replicate filling 0
+  pub written : joined (l - m) (encoded_bits l ks E) ++ bits_in p bytes ≡ joined l (encoded_bits l ks E) ++ replicate filling 0
 
 -- ---- at the start
 
 -- Filling zeros are held as the number 0.
-tabulate-zeros : (n : ℕ) (f : ℕ → ℕ) → ((k : ℕ) → f k ≡ 0) → tabulate n f ≡ replicate n 0
+tabulate_zeros : (n : ℕ) (f : ℕ → ℕ) → ((k : ℕ) → f k ≡ 0) → tabulate n f ≡ replicate n 0
 unfolding tabulate
-tabulate-zeros zero f e = refl
-tabulate-zeros (suc n) f e = ap₂ (λ a rest. a ∷ rest) (e zero) (tabulate-zeros n (λ k. f (suc k)) (λ k. e (suc k)))
+tabulate_zeros zero f e = refl
+tabulate_zeros (suc n) f e = ap₂ (λ a rest. a ∷ rest) (e zero) (tabulate_zeros n (λ k. f (suc k)) (λ k. e (suc k)))
 
 zero_bits : (n : ℕ) → bits_of n 0 ≡ replicate n 0
 unfolding bits_of
-zero_bits n = tabulate-zeros n _ (λ k. ap (λ m. m % 2) (zero-div (2 ^ (n - suc k))))
+zero_bits n = tabulate_zeros n _ (λ k. ap (λ m. m % 2) (zero-div (2 ^ (n - suc k))))
 
-module _ (d l : ℕ) (bytes : List ℕ) (long : length bytes ≡ bitsLength d l) where
+module _ (d l : ℕ) (bytes : List ℕ) (long : length bytes ≡ bits_length d l) where
   -- The bits fit, with fewer than eight to fill.
-  pub fitting-bits : l * d ≤ length bytes * 8
-  fitting-bits = unfold bitsLength bytesFor in omega arith
+  pub fitting_bits : l * d ≤ length bytes * 8
+  fitting_bits = unfold bits_length bytes_for in omega arith
 
-  pub few-filling : length bytes * 8 - l * d < 8
-  few-filling = unfold bitsLength bytesFor in omega arith
+  pub few_filling : length bytes * 8 - l * d < 8
+  few_filling = unfold bits_length bytes_for in omega arith
 
-  pub nothing-behind : (ks order : List ℕ) (below : ℕ) → ((i : ℕ) → get_or bytes i 0 < 256) → below ≡ gathered ks 0
+  pub nothing_behind : (ks order : List ℕ) (below : ℕ) → ((i : ℕ) → get_or bytes i 0 < 256) → below ≡ gathered ks 0
       → Behind d l ks (take d order) 0 bytes order (record { at = length bytes; held = length bytes * 8 - l * d; fill = 0 }) below
-  unfolding orderToGo bitsIn flatten
-  nothing-behind ks order below small e = record {
+  unfolding order_to_go bits_in flatten
+  nothing_behind ks order below small e = record {
     upto = omega arith;
     arranged = refl;
     bits = e;
-    left = omega (arith, ap (λ n. n * d) (sub-zero l), fitting-bits);
-    state = record { few = few-filling; small = pow_pos (length bytes * 8 - l * d); inside = omega arith };
+    left = omega (arith, ap (λ n. n * d) (sub-zero l), fitting_bits);
+    state = record { few = few_filling; small = pow_pos (length bytes * 8 - l * d); inside = omega arith };
     long = long;
     small = small;
     filling = length bytes * 8 - l * d;
     written =
-        ap₂ (λ n s. joined n (encodedBits l ks (take d order)) ++ s) (sub-zero l)
+        ap₂ (λ n s. joined n (encoded_bits l ks (take d order)) ++ s) (sub-zero l)
         (ap₂ (λ s t. s ++ flatten (map (bits_of 8) t)) (zero_bits (length bytes * 8 - l * d)) (drop-length bytes)
         ∙ append-nil (replicate (length bytes * 8 - l * d) 0));
   }
@@ -79,26 +79,26 @@ module _ (d l : ℕ) (bytes : List ℕ) (long : length bytes ≡ bitsLength d l)
 
 module _ {d l : ℕ} {words E : List ℕ} (fit : Fitting d l words) (a : Arrangement d E) where
   abbrev ks : List ℕ
-  ks = numbersOf d (scalarWords l) words
+  ks = numbers_of d (scalar_words l) words
 
   module _ {m : ℕ} {bytes order : List ℕ} {p : Packing} {below : ℕ} (b : Behind d l ks E m bytes order p below) where
     -- The order's places hold columns.
     pub columns : ColumnsIn d order
-    columns = arranged-columns d order _ fit.shaped.range.dHigh b.arranged (order-to-go l ks a m)
+    columns = arranged_columns d order _ fit.shaped.range.d_high b.arranged (order_to_go_lem l ks a m)
 
     -- The order of all steps is the start order, and all bits are packed.
-    pub all-behind-order : l ≤ m → take d order ≡ encodedStart l ks E
-    unfolding encodedStart
-    all-behind-order h = b.arranged ∙ ap (orderToGo l ks E) (omega (arith, b.upto))
+    pub all_behind_order : l ≤ m → take d order ≡ encoded_start l ks E
+    unfolding encoded_start
+    all_behind_order h = b.arranged ∙ ap (order_to_go l ks E) (omega (arith, b.upto))
 
-    pub all-behind-bits : l ≤ m → bytes ≡ packBits (joined l (encodedBits l ks E))
-    unfolding joined bitsLength
-    all-behind-bits h =
-        packed p bytes (joined l (encodedBits l ks E)) b.filling (omega (arith, ends)) (omega (arith, ends))
-        (subst (λ n. joined n (encodedBits l ks E) ++ bitsIn p bytes ≡ joined l (encodedBits l ks E) ++ replicate b.filling 0) none b.written)
+    pub all_behind_bits : l ≤ m → bytes ≡ pack_bits (joined l (encoded_bits l ks E))
+    unfolding joined bits_length
+    all_behind_bits h =
+        packed p bytes (joined l (encoded_bits l ks E)) b.filling (omega (arith, ends)) (omega (arith, ends))
+        (subst (λ n. joined n (encoded_bits l ks E) ++ bits_in p bytes ≡ joined l (encoded_bits l ks E) ++ replicate b.filling 0) none b.written)
         b.small
-        (joined-below 2 l (encodedBits l ks E) (omega arith) (encodedBits-below l ks a))
-        (b.long ∙ ap bytesFor (sym (length-joined d l (encodedBits l ks E) (λ s q. length-encodedBits l ks a s))))
+        (joined_below 2 l (encoded_bits l ks E) (omega arith) (encoded_bits_below l ks a))
+        (b.long ∙ ap bytes_for (sym (length-joined d l (encoded_bits l ks E) (λ s q. length-encoded_bits l ks a s))))
       where
         none : l - m ≡ 0
         none = omega arith
@@ -117,28 +117,28 @@ module _ {d l : ℕ} {words E : List ℕ} (fit : Fitting d l words) (a : Arrange
       pub room : (r : ℕ) → r < 2 ^ d → Room p d r bytes
       room r small = record {
         state = b.state;
-        dHigh = fit.shaped.range.dHigh;
+        d_high = fit.shaped.range.d_high;
         fits = small;
         room = omega (arith, b.left, bits_left);
       }
 
-      module _ (above r : ℕ) (gather : above ≡ gathered ks (m + 1)) (dealing : bits_of d r ≡ dealtBy (bit_xor above below) (take d order)) where
-        dealt : bits_of d r ≡ deal l ks (orderToGo l ks E m) (l - suc m)
+      module _ (above r : ℕ) (gather : above ≡ gathered ks (m + 1)) (dealing : bits_of d r ≡ dealt_by (bit_xor above below) (take d order)) where
+        dealt : bits_of d r ≡ deal l ks (order_to_go l ks E m) (l - suc m)
         dealt =
             dealing
-            ∙ ap₂ dealtBy (ap₂ bit_xor (gather ∙ ap (gathered ks) (add-one m)) b.bits) b.arranged
-            ∙ dealt-gathered l ks (orderToGo l ks E m) m more
-            (λ k h. fit.below (get_or (orderToGo l ks E m) k 0) ((order-to-go l ks a m).inside k (omega (arith, (order-to-go l ks a m).long))))
+            ∙ ap₂ dealt_by (ap₂ bit_xor (gather ∙ ap (gathered ks) (add-one m)) b.bits) b.arranged
+            ∙ dealt-gathered l ks (order_to_go l ks E m) m more
+            (λ k h. fit.below (get_or (order_to_go l ks E m) k 0) ((order_to_go_lem l ks a m).inside k (omega (arith, (order_to_go_lem l ks a m).long))))
 
-        encoded : bits_of d r ≡ encodedBits l ks E (l - suc m)
-        unfolding encodedBits
-        encoded = dealt ∙ ap (λ n. deal l ks (orderToGo l ks E n) (l - suc m)) (omega arith)
+        encoded : bits_of d r ≡ encoded_bits l ks E (l - suc m)
+        unfolding encoded_bits
+        encoded = dealt ∙ ap (λ n. deal l ks (order_to_go l ks E n) (l - suc m)) (omega arith)
 
-        pub one-more-behind : (q : Packing) (after before : List ℕ) → Put p d r bytes q after → length after ≡ length bytes
+        pub one_more_behind : (q : Packing) (after before : List ℕ) → Put p d r bytes q after → length after ≡ length bytes
             → ((i : ℕ) → get_or after i 0 < 256) → take d before ≡ rearrange (take d order) (bits_of d r)
             → Behind d l ks E (m + 1) after before q above
-        unfolding orderToGo joined
-        one-more-behind q after before put long small turned =
+        unfolding order_to_go joined
+        one_more_behind q after before put long small turned =
             subst (λ n. Behind d l ks E n after before q above) (sym (add-one m)) (record {
               upto = more;
               arranged = turned ∙ ap₂ rearrange b.arranged dealt;
@@ -149,9 +149,9 @@ module _ {d l : ℕ} {words E : List ℕ} (fit : Fitting d l words) (a : Arrange
               small = small;
               filling = b.filling;
               written =
-                  ap (λ s. joined (l - suc m) (encodedBits l ks E) ++ s)
-                  (put.bits ∙ ap (λ s. s ++ bitsIn p bytes) encoded)
-                  ∙ sym (append_assoc (joined (l - suc m) (encodedBits l ks E)) (encodedBits l ks E (l - suc m)) (bitsIn p bytes))
-                  ∙ ap (λ n. joined n (encodedBits l ks E) ++ bitsIn p bytes) (sym next)
+                  ap (λ s. joined (l - suc m) (encoded_bits l ks E) ++ s)
+                  (put.bits ∙ ap (λ s. s ++ bits_in p bytes) encoded)
+                  ∙ sym (append_assoc (joined (l - suc m) (encoded_bits l ks E)) (encoded_bits l ks E (l - suc m)) (bits_in p bytes))
+                  ∙ ap (λ n. joined n (encoded_bits l ks E) ++ bits_in p bytes) (sym next)
                   ∙ b.written;
             })

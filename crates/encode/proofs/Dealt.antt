@@ -14,25 +14,25 @@ use Rattle.ladder.specs.Matrix.{Arrangement}
 use Rattle.ladder.specs.Encoding.{dealt, deal}
 use Rattle.ladder.specs.Walk.{bits_of}
 use Rattle.ladder.proofs.Lists.{length-tabulate, get_d_tabulate, get_d_map, map_same}
-use Rattle.ladder.proofs.Encoding.{dealt-is}
+use Rattle.ladder.proofs.Encoding.{dealt_is}
 use Rattle.scalars.specs.Inner.{gathered}
-use Rattle.scalars.proofs.Gathered.{gathered-bit}
-use Rattle.encode.specs.Inner.Order.{ColumnsIn, dealtBy}
-use Rattle.encode.proofs.Digits.{bitsOf-snoc, xor-bit}
+use Rattle.scalars.proofs.Gathered.{gathered_bit}
+use Rattle.encode.specs.Inner.Order.{ColumnsIn, dealt_by}
+use Rattle.encode.proofs.Digits.{bits_of_snoc, xor_bit}
 
 -- One place more.
 module _ (n : ℕ) (order : List ℕ) (r k : ℕ) (here : k < length order) where
   abbrev bit : ℕ
   bit = n / 2 ^ get_or order k 0 % 2
 
-  pub dealt-small : r < 2 ^ k → r * 2 + bit < 2 ^ (k + 1)
-  dealt-small h = rw (add-one k) (omega (arith, two-pow-succ k))
+  pub dealt_small : r < 2 ^ k → r * 2 + bit < 2 ^ (k + 1)
+  dealt_small h = rw (add-one k) (omega (arith, two-pow-succ k))
 
-  pub dealt-more : bits_of k r ≡ dealtBy n (take k order) → bits_of (k + 1) (r * 2 + bit) ≡ dealtBy n (take (k + 1) order)
-  unfolding dealtBy
-  dealt-more e =
+  pub dealt_more : bits_of k r ≡ dealt_by n (take k order) → bits_of (k + 1) (r * 2 + bit) ≡ dealt_by n (take (k + 1) order)
+  unfolding dealt_by
+  dealt_more e =
       rw (add-one k) (
-      bitsOf-snoc k r bit (omega arith)
+      bits_of_snoc k r bit (omega arith)
       ∙ ap (λ s. s ++ (bit ∷ [])) e
       ∙ sym
       (ap (map (λ j. n / 2 ^ j % 2)) (take-suc order k 0 here)
@@ -42,8 +42,8 @@ module _ (n : ℕ) (order : List ℕ) (r k : ℕ) (here : k < length order) wher
 -- With m steps behind it, the step deals each column its bit m+1 XOR its bit m, counted from the lowest.
 pub dealt-gathered : (l : ℕ) (ks S : List ℕ) (m : ℕ) → m < l
     → ((k : ℕ) → k < length S → get_or ks (get_or S k 0) 0 < 2 ^ l)
-    → dealtBy (bit_xor (gathered ks (suc m)) (gathered ks m)) S ≡ deal l ks S (l - suc m)
-unfolding dealtBy deal
+    → dealt_by (bit_xor (gathered ks (suc m)) (gathered ks m)) S ≡ deal l ks S (l - suc m)
+unfolding dealt_by deal
 dealt-gathered l ks S m h fits = map_same _ _ S 0 (λ k q. at (get_or S k 0) (fits k q))
   where
     at : (j : ℕ) → get_or ks j 0 < 2 ^ l
@@ -52,11 +52,11 @@ dealt-gathered l ks S m h fits = map_same _ _ S 0 (λ k q. at (get_or S k 0) (fi
         let n = get_or ks j 0 in
         let here : l - suc (l - suc m) ≡ m = omega arith in
         let above : l - (l - suc m) ≡ suc m = omega arith in
-        xor-bit (gathered ks (suc m)) (gathered ks m) j
-        ∙ ap₂ (λ a b. (a + b) % 2) (gathered-bit ks (suc m) j) (gathered-bit ks m j)
+        xor_bit (gathered ks (suc m)) (gathered ks m) j
+        ∙ ap₂ (λ a b. (a + b) % 2) (gathered_bit ks (suc m) j) (gathered_bit ks m j)
         ∙ omega arith
         ∙ sym (ap₂ (λ a b. (n / 2 ^ a % 2 + n / 2 ^ b % 2) % 2) here above)
-        ∙ sym (dealt-is l n (l - suc m) f)
+        ∙ sym (dealt_is l n (l - suc m) f)
 
 -- ---- the columns in number order
 
@@ -77,16 +77,16 @@ pub rising : (d : ℕ) → d ≤ 8 → take d eight ≡ tabulate d (λ j. j)
 rising d h = ap (take d) eight_is ∙ take-tabulate 8 d (λ j. j) h
 
 -- The places of an arrangement hold columns.
-pub arranged-columns : (d : ℕ) (order S : List ℕ) → d ≤ 8 → take d order ≡ S → Arrangement d S → ColumnsIn d order
-arranged-columns d order S h e a = record {
-  dHigh = h;
+pub arranged_columns : (d : ℕ) (order S : List ℕ) → d ≤ 8 → take d order ≡ S → Arrangement d S → ColumnsIn d order
+arranged_columns d order S h e a = record {
+  d_high = h;
   inside = λ k q. subst (λ j. j < d) (sym (ap (λ s. get_or s k 0) e) ∙ get_or-take d order k 0 q) (a.inside k q);
 }
 
 -- Dealt by the gathered lowest bits, the columns in number order get the scalars' parities.
-pub dealt-parities : (d : ℕ) (ks : List ℕ) → length ks ≡ d → dealtBy (gathered ks 0) (tabulate d (λ j. j)) ≡ map (λ n. n % 2) ks
-unfolding dealtBy
-dealt-parities d ks e =
+pub dealt_parities : (d : ℕ) (ks : List ℕ) → length ks ≡ d → dealt_by (gathered ks 0) (tabulate d (λ j. j)) ≡ map (λ n. n % 2) ks
+unfolding dealt_by
+dealt_parities d ks e =
     ext_get_or 0 _ (map (λ n. n % 2) ks)
     (length-map (tabulate d (λ j. j)) bit-of ∙ length-tabulate d (λ j. j) ∙ sym e ∙ sym (length-map ks (λ n. n % 2)))
     (λ j h. at j (omega (arith, length-map (tabulate d (λ j. j)) bit-of, length-tabulate d (λ (j : ℕ). j))))
@@ -98,16 +98,16 @@ dealt-parities d ks e =
     at j h =
         get_d_map bit-of (tabulate d (λ j. j)) j 0 0 (omega (arith, length-tabulate d (λ (j : ℕ). j)))
         ∙ ap bit-of (get_d_tabulate d (λ j. j) j 0 h)
-        ∙ gathered-bit ks 0 j
+        ∙ gathered_bit ks 0 j
         ∙ ap (λ n. n % 2) (div-one (get_or ks j 0))
         ∙ sym (get_d_map (λ n. n % 2) ks j 0 0 (omega arith))
 
 -- ---- columns counted from 1
 
 -- One column more is written.
-pub counted-more : (order start : List ℕ) (k : ℕ) → k < length order → k < length start → take k start ≡ map suc (take k order)
+pub counted_more : (order start : List ℕ) (k : ℕ) → k < length order → k < length start → take k start ≡ map suc (take k order)
     → take (k + 1) (set start k (get_or order k 0 + 1)) ≡ map suc (take (k + 1) order)
-counted-more order start k here room e =
+counted_more order start k here room e =
     rw (add-one k, add-one (get_or order k 0)) (
     take-suc-set start k (suc (get_or order k 0)) room
     ∙ ap (λ s. s ++ (suc (get_or order k 0) ∷ [])) e

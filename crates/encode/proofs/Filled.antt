@@ -10,7 +10,7 @@ use lib.ListN.{length, get_or, take, drop, set, length-set, drop_of_length-le, t
 use lib.Seq.{take-suc-set, take-set-le, take-set-lt, drop-set-lt, drop-cons, get_or-set_same, get_or-take, length-take-le}
 use Rattle.ladder.specs.Encoding.{picked, passed, rearrange}
 use Rattle.ladder.specs.Walk.{bits_of}
-use Rattle.ladder.proofs.Walk.{length-bitsOf, getD-bitsOf}
+use Rattle.ladder.proofs.Walk.{length-bits_of, get_or-bits_of}
 
 -- Of d columns S those from place i on are in T: those with bit 1 in its first f places, reversed, those with bit 0 from place f + i on.
 pub record Filled (d : ℕ) (S r : List ℕ) (i f : ℕ) (T : List ℕ) : Type 0 where
@@ -76,9 +76,9 @@ module _ (order : List ℕ) (d r : ℕ) (wide : d ≤ length order) where
   long = length-take-le d order wide
 
   -- At the start no column is in T ..
-  pub nothing-filled : (T : List ℕ) → length T ≡ d → Filled d S B d 0 T
+  pub nothing_filled : (T : List ℕ) → length T ≡ d → Filled d S B d 0 T
   unfolding picked passed
-  nothing-filled T e = record {
+  nothing_filled T e = record {
     few = omega arith;
     ones = rw none_left refl;
     zeros = rw none_left (drop_of_length-le T {i = 0 + d} (omega arith));
@@ -88,10 +88,10 @@ module _ (order : List ℕ) (d r : ℕ) (wide : d ≤ length order) where
       none_left = drop_of_length-le S {i = d} (omega (arith, long))
 
   -- .. a turn puts the column before those that are in it to both places, and counts its bit ..
-  pub one-more-filled : (out : List ℕ) (left f : ℕ) → 0 < left → left ≤ d → d ≤ length out → Filled d S B left f (take d out)
+  pub one_more_filled : (out : List ℕ) (left f : ℕ) → 0 < left → left ≤ d → d ≤ length out → Filled d S B left f (take d out)
       → Filled d S B (left - 1) (f + r / 2 ^ (d - left) % 2)
       (take d (set (set out f (get_or order (left - 1) 0)) (f + (left - 1)) (get_or order (left - 1) 0)))
-  one-more-filled out left f some inside room t = record {
+  one_more_filled out left f some inside room t = record {
     few = omega (arith, t.few);
     ones = rw (stored, cut-S, cut-B) (ones-more T f i j (omega (arith, t.few, tall)) (drop left S) (drop left B) b (omega arith) t.ones);
     zeros = rw (stored, cut-S, cut-B) (zeros-more T f i j (omega (arith, t.few, tall)) (drop left S) (drop left B) b (omega arith) (rw next t.zeros));
@@ -130,8 +130,8 @@ module _ (order : List ℕ) (d r : ℕ) (wide : d ≤ length order) where
 
       cut-B : drop i B ≡ b ∷ drop left B
       cut-B =
-          drop-cons B i 0 (omega (arith, length-bitsOf d r))
-          ∙ ap₂ (λ a m. a ∷ drop m B) (getD-bitsOf d r i (omega arith) ∙ ap (λ m. r / 2 ^ (d - m) % 2) from) from
+          drop-cons B i 0 (omega (arith, length-bits_of d r))
+          ∙ ap₂ (λ a m. a ∷ drop m B) (get_or-bits_of d r i (omega arith) ∙ ap (λ m. r / 2 ^ (d - m) % 2) from) from
 
   -- .. and at the end T is the columns rearranged.
   pub all-filled : (f : ℕ) (T : List ℕ) → Filled d S B 0 f T → T ≡ rearrange S B

@@ -4,7 +4,7 @@ use Prim.Native.Nat.{ℕ, zero, suc, ◌/◌, ◌%◌, ◌^◌}
 use mathlib.Core.Path.{◌≡◌, refl, sym, ap, ap₂, ◌∙◌}
 use mathlib.Core.List.{List, [], ◌∷◌, ◌++◌, map, reverse, append-nil, reverse-cons, reverse-reverse}
 use Rattle.ladder.specs.Encoding.{picked, passed, rearrange}
-use Rattle.encode.specs.Inner.Order.{dealtBy}
+use Rattle.encode.specs.Inner.Order.{dealt_by}
 
 module _ (f : ℕ → ℕ) where
   -- The columns with bit 1, and those with bit 0, where column j has the bit f j.
@@ -91,8 +91,8 @@ module _ (f : ℕ → ℕ) where
       ∙ ap (λ s. s ++ off S) (reverse-reverse (on S))
 
 -- Columns rearranged twice, each time by the bits that n deals them, are parted and in their places.
-pub rearranged-twice : (n : ℕ) (S once : List ℕ) → once ≡ rearrange S (dealtBy n S)
-    → rearrange once (dealtBy n once) ≡ picked S (dealtBy n S) ++ passed S (dealtBy n S)
-unfolding rearrange dealtBy
-rearranged-twice n S once e =
+pub rearranged_twice : (n : ℕ) (S once : List ℕ) → once ≡ rearrange S (dealt_by n S)
+    → rearrange once (dealt_by n once) ≡ picked S (dealt_by n S) ++ passed S (dealt_by n S)
+unfolding rearrange dealt_by
+rearranged_twice n S once e =
     ap (λ T. rearrange T (map (λ j. n / 2 ^ j % 2) T)) e ∙ twice (λ j. n / 2 ^ j % 2) S

@@ -8,10 +8,10 @@ use Rattle.encode.specs.declared.call.Encoded.{Encoded}
 use Rattle.encode.specs.Promise.{EncodePromise}
 
 -- Two answers with two outputs that meet the promise on the same input are equal.
-pub encode-unique : {d l : ℕ} {scalars start bits : List ℕ} {r s : Encoded} {startAfter startOther bitsAfter bitsOther : List ℕ}
+pub encode_unique : {d l : ℕ} {scalars start bits : List ℕ} {r s : Encoded} {startAfter startOther bitsAfter bitsOther : List ℕ}
     → EncodePromise d l scalars start bits r startAfter bitsAfter → EncodePromise d l scalars start bits s startOther bitsOther
     → (r ≡ s) × (startAfter ≡ startOther) × (bitsAfter ≡ bitsOther)
-encode-unique x y =
+encode_unique x y =
     let n = x.refusal_is ∙ sym y.refusal_is in (
       ap₂ (λ m i. record { refusal = m; row = i }) n (refusing-same _ _ n x.row_is y.row_is),
       refusing-same _ _ n x.start_is y.start_is,

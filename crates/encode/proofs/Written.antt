@@ -9,19 +9,19 @@ use lib.ListN.{length, get_or, take, drop, set, replicate, length-set, get_or-ap
 use lib.Seq.{set_split, drop_at, length-take-le, get_or-append-add}
 use lib.Arith.{digits_lt}
 use lib.Pow.{pow-add, shr_lt, shl_exact}
-use Rattle.ladder.specs.Numbers.{bit_at, bytesFor, packBits}
+use Rattle.ladder.specs.Numbers.{bit_at, bytes_for, pack_bits}
 use Rattle.ladder.specs.Lists.{tabulate}
 use Rattle.ladder.specs.Walk.{bits_of}
-use Rattle.ladder.proofs.Lists.{getD-zeros}
-use Rattle.ladder.proofs.Bits.{length-packBits, packBits-below, bitAt-packBits, bytes-unique, bitAt-byte}
+use Rattle.ladder.proofs.Lists.{get_or_zeros}
+use Rattle.ladder.proofs.Bits.{length-pack_bits, pack_bits_below, bit_at-pack_bits, bytes_unique, bit_at_byte}
 use Rattle.encode.specs.declared.packing.Packing.{Packing}
-use Rattle.encode.specs.Inner.Packing.{bitsIn, Room, Put}
-use Rattle.ladder.proofs.Walk.{length-bitsOf, getD-bitsOf}
-use Rattle.encode.proofs.Digits.{bitsOf-append}
+use Rattle.encode.specs.Inner.Packing.{bits_in, Room, Put}
+use Rattle.ladder.proofs.Walk.{length-bits_of, get_or-bits_of}
+use Rattle.encode.proofs.Digits.{bits_of-append}
 
 -- The bits of bytes, one after the other.
-abbrev bitsOfBytes : List ℕ → List ℕ
-bitsOfBytes bytes = flatten (map (bits_of 8) bytes)
+abbrev bits_of_bytes : List ℕ → List ℕ
+bits_of_bytes bytes = flatten (map (bits_of 8) bytes)
 
 -- ---- one number put before what is written
 
@@ -31,48 +31,48 @@ module _ (p : Packing) (d r : ℕ) (bytes : List ℕ) (room : Room p d r bytes) 
   filled = r * 2 ^ p.held + p.fill
 
   -- It has held + d bits.
-  pub filled-below : filled < 2 ^ (p.held + d)
-  filled-below =
+  pub filled_below : filled < 2 ^ (p.held + d)
+  filled_below =
       let e : p.held + d ≡ d + p.held = omega arith in
       rw (e, pow-add 2 d p.held) (digits_lt room.fits room.state.small)
 
   filled-bits : bits_of (p.held + d) filled ≡ bits_of d r ++ bits_of p.held p.fill
   filled-bits =
       let e : p.held + d ≡ d + p.held = omega arith in
-      ap (λ n. bits_of n filled) e ∙ bitsOf-append d p.held r p.fill room.state.small
+      ap (λ n. bits_of n filled) e ∙ bits_of-append d p.held r p.fill room.state.small
 
   -- The shift loses nothing.
   pub shifted : r * 2 ^ p.held % 2 ^ 64 ≡ r * 2 ^ p.held
-  shifted = shl_exact d p.held 64 room.fits (omega (arith, room.dHigh, room.state.few))
+  shifted = shl_exact d p.held 64 room.fits (omega (arith, room.d_high, room.state.few))
 
   -- Where no byte is finished, more is held ..
-  pub put-held : p.held + d < 8 → Put p d r bytes (record { at = p.at; held = p.held + d; fill = filled }) bytes
-  unfolding bitsIn
-  put-held h = record {
-    state = record { few = h; small = filled-below; inside = room.state.inside };
+  pub put_held : p.held + d < 8 → Put p d r bytes (record { at = p.at; held = p.held + d; fill = filled }) bytes
+  unfolding bits_in
+  put_held h = record {
+    state = record { few = h; small = filled_below; inside = room.state.inside };
     moved = omega arith;
     bits =
-        ap (λ s. s ++ bitsOfBytes (drop p.at bytes)) filled-bits
-        ∙ append_assoc (bits_of d r) (bits_of p.held p.fill) (bitsOfBytes (drop p.at bytes));
+        ap (λ s. s ++ bits_of_bytes (drop p.at bytes)) filled-bits
+        ∙ append_assoc (bits_of d r) (bits_of p.held p.fill) (bits_of_bytes (drop p.at bytes));
   }
 
   -- .. and a finished byte is written before the others.
   pub put_byte : 8 ≤ p.held + d
       → Put p d r bytes (record { at = p.at - 1; held = p.held + d - 8; fill = filled / 256 }) (set bytes (p.at - 1) (filled % 256))
-  unfolding bitsIn
+  unfolding bits_in
   put_byte h = record {
     state = record {
-      few = omega (arith, room.dHigh, room.state.few);
-      small = shr_lt (p.held + d - 8) 8 (rw more filled-below);
+      few = omega (arith, room.d_high, room.state.few);
+      small = shr_lt (p.held + d - 8) 8 (rw more filled_below);
       inside = rw (length-set bytes (p.at - 1) (filled % 256)) (omega (arith, room.state.inside));
     };
     moved = omega (arith, room.room);
     bits =
-        ap (λ s. bits_of (p.held + d - 8) (filled / 256) ++ bitsOfBytes s) written
+        ap (λ s. bits_of (p.held + d - 8) (filled / 256) ++ bits_of_bytes s) written
         ∙ unfold flatten in
-        sym (append_assoc (bits_of (p.held + d - 8) (filled / 256)) (bits_of 8 (filled % 256)) (bitsOfBytes (drop p.at bytes)))
-        ∙ ap (λ s. s ++ bitsOfBytes (drop p.at bytes)) all
-        ∙ append_assoc (bits_of d r) (bits_of p.held p.fill) (bitsOfBytes (drop p.at bytes));
+        sym (append_assoc (bits_of (p.held + d - 8) (filled / 256)) (bits_of 8 (filled % 256)) (bits_of_bytes (drop p.at bytes)))
+        ∙ ap (λ s. s ++ bits_of_bytes (drop p.at bytes)) all
+        ∙ append_assoc (bits_of d r) (bits_of p.held p.fill) (bits_of_bytes (drop p.at bytes));
   }
     where
       more : p.held + d - 8 + 8 ≡ p.held + d
@@ -89,52 +89,52 @@ module _ (p : Packing) (d r : ℕ) (bytes : List ℕ) (room : Room p d r bytes) 
 
       all : bits_of (p.held + d - 8) (filled / 256) ++ bits_of 8 (filled % 256) ≡ bits_of d r ++ bits_of p.held p.fill
       all =
-          sym (bitsOf-append (p.held + d - 8) 8 (filled / 256) (filled % 256) (omega arith))
+          sym (bits_of-append (p.held + d - 8) 8 (filled / 256) (filled % 256) (omega arith))
           ∙ ap₂ bits_of more (div-add-mod' filled 256)
           ∙ filled-bits
 
 -- ---- all bits written
 
 -- Bit r of byte q.
-getD-bytes : (bytes : List ℕ) (q r : ℕ) → r < 8 → get_or (bitsOfBytes bytes) (8 * q + r) 0 ≡ get_or bytes q 0 / 2 ^ (7 - r) % 2
+get_or_bytes : (bytes : List ℕ) (q r : ℕ) → r < 8 → get_or (bits_of_bytes bytes) (8 * q + r) 0 ≡ get_or bytes q 0 / 2 ^ (7 - r) % 2
 unfolding flatten
-getD-bytes [] q r h = sym (ap (λ m. m % 2) (zero-div (2 ^ (7 - r))))
-getD-bytes (b ∷ bytes) zero r h =
+get_or_bytes [] q r h = sym (ap (λ m. m % 2) (zero-div (2 ^ (7 - r))))
+get_or_bytes (b ∷ bytes) zero r h =
     let first : 8 * 0 + r ≡ r = omega arith in
     let place : 8 - suc r ≡ 7 - r = omega arith in
-    ap (λ n. get_or (bits_of 8 b ++ bitsOfBytes bytes) n 0) first
-    ∙ get_or-append (bits_of 8 b) (bitsOfBytes bytes) 0 r (omega (arith, length-bitsOf 8 b))
-    ∙ getD-bitsOf 8 b r h
+    ap (λ n. get_or (bits_of 8 b ++ bits_of_bytes bytes) n 0) first
+    ∙ get_or-append (bits_of 8 b) (bits_of_bytes bytes) 0 r (omega (arith, length-bits_of 8 b))
+    ∙ get_or-bits_of 8 b r h
     ∙ ap (λ e. b / 2 ^ e % 2) place
-getD-bytes (b ∷ bytes) (suc q) r h =
-    let past : 8 * suc q + r ≡ length (bits_of 8 b) + (8 * q + r) = omega (arith, length-bitsOf 8 b) in
-    ap (λ n. get_or (bits_of 8 b ++ bitsOfBytes bytes) n 0) past
-    ∙ get_or-append-add (bits_of 8 b) (bitsOfBytes bytes) (8 * q + r) 0
-    ∙ getD-bytes bytes q r h
+get_or_bytes (b ∷ bytes) (suc q) r h =
+    let past : 8 * suc q + r ≡ length (bits_of 8 b) + (8 * q + r) = omega (arith, length-bits_of 8 b) in
+    ap (λ n. get_or (bits_of 8 b ++ bits_of_bytes bytes) n 0) past
+    ∙ get_or-append-add (bits_of 8 b) (bits_of_bytes bytes) (8 * q + r) 0
+    ∙ get_or_bytes bytes q r h
 
 -- Zeros at the end change no bit.
-getD-filled : (J : List ℕ) (n i : ℕ) → get_or (J ++ replicate n 0) i 0 ≡ get_or J i 0
-getD-filled [] n i = getD-zeros n i
-getD-filled (b ∷ J) n zero = refl
-getD-filled (b ∷ J) n (suc i) = getD-filled J n i
+get_or-filled : (J : List ℕ) (n i : ℕ) → get_or (J ++ replicate n 0) i 0 ≡ get_or J i 0
+get_or-filled [] n i = get_or_zeros n i
+get_or-filled (b ∷ J) n zero = refl
+get_or-filled (b ∷ J) n (suc i) = get_or-filled J n i
 
 -- Bytes whose bits are those of a list and filling zeros are the list packed.
-pub packed : (p : Packing) (bytes J : List ℕ) (n : ℕ) → p.at ≡ 0 → p.held ≡ 0 → bitsIn p bytes ≡ J ++ replicate n 0
-    → ((i : ℕ) → get_or bytes i 0 < 256) → ((i : ℕ) → get_or J i 0 < 2) → length bytes ≡ bytesFor (length J) → bytes ≡ packBits J
-unfolding bitsIn
+pub packed : (p : Packing) (bytes J : List ℕ) (n : ℕ) → p.at ≡ 0 → p.held ≡ 0 → bits_in p bytes ≡ J ++ replicate n 0
+    → ((i : ℕ) → get_or bytes i 0 < 256) → ((i : ℕ) → get_or J i 0 < 2) → length bytes ≡ bytes_for (length J) → bytes ≡ pack_bits J
+unfolding bits_in
 packed p bytes J n at held e hb hJ long =
-    bytes-unique bytes (packBits J) (long ∙ sym (length-packBits J)) hb (packBits-below J hJ)
-    (λ i. bit i ∙ sym (bitAt-packBits J hJ i))
+    bytes_unique bytes (pack_bits J) (long ∙ sym (length-pack_bits J)) hb (pack_bits_below J hJ)
+    (λ i. bit i ∙ sym (bit_at-pack_bits J hJ i))
   where
-    whole : bitsOfBytes bytes ≡ J ++ replicate n 0
+    whole : bits_of_bytes bytes ≡ J ++ replicate n 0
     whole = unfold bits_of tabulate in rw (at, held) at e
 
     bit : (i : ℕ) → bit_at bytes i ≡ get_or J i 0
     bit i =
         let parts : 8 * (i / 8) + i % 8 ≡ i = omega arith in
         rw parts at (
-        bitAt-byte bytes (i / 8) (i % 8) (omega arith)
-        ∙ sym (getD-bytes bytes (i / 8) (i % 8) (omega arith))
+        bit_at_byte bytes (i / 8) (i % 8) (omega arith)
+        ∙ sym (get_or_bytes bytes (i / 8) (i % 8) (omega arith))
         ∙ ap (λ s. get_or s (8 * (i / 8) + i % 8) 0) whole
-        ∙ getD-filled J n (8 * (i / 8) + i % 8)
+        ∙ get_or-filled J n (8 * (i / 8) + i % 8)
         )

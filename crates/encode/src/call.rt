@@ -1,6 +1,6 @@
 // The public call `encode`.
 ghost use Rattle.std.specs.Prelude.{◌≡◌};
-ghost use Rattle.ladder.specs.Refusals.{encodeRefusal};
+ghost use Rattle.ladder.specs.Refusals.{encode_refusal};
 ghost use Rattle.encode.specs.Promise.{EncodePromise};
 
 use crate::order::house_order;
@@ -18,7 +18,7 @@ pub struct Encoded {
 // The first refusal that applies, of 1, 2, 3, 4. Buffers are measured only where d and l are in range, and the scalars are looked at only
 // where every buffer has its length.
 fn encode_refusal(d: u64, l: u64, scalars: &[u64], start: &[u8], bits: &[u8]) -> u64
-    ensures { result ≡ encodeRefusal d l scalars.now start.now bits.now }
+    ensures { result ≡ encode_refusal d l scalars.now start.now bits.now }
 {
     let range = refuse::range(d, l);
     if range != OK {

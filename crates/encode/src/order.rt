@@ -1,7 +1,7 @@
 // Orders of columns: the first d places of an array, columns counted from 0.
 ghost use Rattle.std.specs.Prelude.{◌≡◌, ◌≤◌, take};
-ghost use Rattle.ladder.specs.Numbers.{numbersOf, scalarWords};
-ghost use Rattle.ladder.specs.Encoding.{rearrange, houseOrder};
+ghost use Rattle.ladder.specs.Numbers.{numbers_of, scalar_words};
+ghost use Rattle.ladder.specs.Encoding.{rearrange, house_order};
 ghost use Rattle.ladder.specs.Walk.{bits_of};
 ghost use Rattle.scalars.specs.Inner.{Fitting};
 
@@ -34,7 +34,7 @@ pub fn rearrange(order: [u8; 8], d: usize, r: u64) -> [u8; 8]
 // stand first and fall; once more, and they rise.
 pub fn house_order(d: usize, l: usize, scalars: &[u64]) -> [u8; 8]
     requires { Fitting d l scalars.now }
-    ensures { take d result ≡ houseOrder d (numbersOf d (scalarWords l) scalars.now) }
+    ensures { take d result ≡ house_order d (numbers_of d (scalar_words l) scalars.now) }
 {
     let rising: [u8; 8] = [0, 1, 2, 3, 4, 5, 6, 7];
     let odd = gather(d, l, 0, scalars);

@@ -1,9 +1,9 @@
 // The encoder's core: from scalars and any arrangement as end order to a start order and bits.
 ghost use Rattle.std.specs.Prelude.{◌≡◌, map, suc, length, take};
 ghost use Rattle.ladder.specs.Lists.{joined};
-ghost use Rattle.ladder.specs.Numbers.{numbersOf, scalarWords, packBits, bitsLength};
+ghost use Rattle.ladder.specs.Numbers.{numbers_of, scalar_words, pack_bits, bits_length};
 ghost use Rattle.ladder.specs.Matrix.{Arrangement};
-ghost use Rattle.ladder.specs.Encoding.{encodedStart, encodedBits};
+ghost use Rattle.ladder.specs.Encoding.{encoded_start, encoded_bits};
 ghost use Rattle.scalars.specs.Inner.{Fitting};
 ghost use Rattle.encode.specs.Inner.Order.{ColumnsIn};
 
@@ -38,9 +38,9 @@ pub fn encode_with(
     requires fitting { Fitting d l scalars.now }
     requires arrangement { Arrangement d (take d end) }
     requires start_len { length start.old ≡ d }
-    requires bits_len { length bits.old ≡ bitsLength d l }
-    ensures start { start.new ≡ map suc (encodedStart l (numbersOf d (scalarWords l) scalars.now) (take d end)) }
-    ensures bits { bits.new ≡ packBits (joined l (encodedBits l (numbersOf d (scalarWords l) scalars.now) (take d end))) }
+    requires bits_len { length bits.old ≡ bits_length d l }
+    ensures start { start.new ≡ map suc (encoded_start l (numbers_of d (scalar_words l) scalars.now) (take d end)) }
+    ensures bits { bits.new ≡ pack_bits (joined l (encoded_bits l (numbers_of d (scalar_words l) scalars.now) (take d end))) }
 {
     let mut order = end;
     let mut packing = Packing {

@@ -1,7 +1,7 @@
 // What a call is lent beside a loose plan.
 ghost use Rattle.std.specs.Prelude.{◌≡◌};
 ghost use Rattle.refuse.specs.Inner.{InRange};
-ghost use Rattle.judge.specs.Inner.{besideShape};
+ghost use Rattle.judge.specs.Inner.{beside_shape};
 
 use refuse::{file_length, first, scalars_length, shape, trace_length, values_length};
 
@@ -19,7 +19,7 @@ pub enum Beside {
 // Number 3 of these buffers.
 pub fn others(d: u64, l: u64, beside: Beside) -> u64
     requires { InRange d l }
-    ensures { result ≡ besideShape d l beside }
+    ensures { result ≡ beside_shape d l beside }
 {
     match beside {
         Beside::Values(n) => shape(n, values_length(d, l)),

@@ -5,100 +5,100 @@ use mathlib.Core.Path.{◌≡◌, refl, ◌∙◌}
 use mathlib.Core.Logic.{◌⊎◌, ⊎_elim}
 use mathlib.Core.List.{List}
 use native.Mathlib.Omega.{arith}
-use Rattle.ladder.specs.Numbers.{scalarsLength, valuesLength, startLength, elementsLength, registersLength, bitsLength, traceLength, longestText}
+use Rattle.ladder.specs.Numbers.{scalars_length, values_length, start_length, elements_length, registers_length, bits_length, trace_length, longest_text}
 use Rattle.ladder.specs.Plan.{Plan}
 use Rattle.ladder.specs.Walk.{Walk}
-use Rattle.ladder.specs.PlanFile.{fileLength, planIn}
-use Rattle.ladder.specs.Refusals.{◌then◌, DIM, LENGTH, SHAPE, SCALAR, ORDER, ROW, MODULUS, ELEMENT, TRAILER, BIG, dim, len, shape, stepShape, scalar, order, walkOrder, answer, tooLarge, element, trailer, distance, big, readRefusal, planRefusal, planShape, looseRefusal, scalarsIn, encodeRefusal, decodeRefusal, checkRefusal, stepRefusal, traceRefusal, runRefusal, packRefusal, unpackRefusal, listRefusal, listingRefusal}
-use Rattle.ladder.proofs.Tests.{then-first, then_next, then-assoc, then_is}
-use Rattle.ladder.proofs.Refusals.{dim-is, len_is, shape_is, stepShape-is, scalar_is, order_is, walkOrder-is, answer-is, tooLarge-is, element-is, trailer-is, distance_is, big-is}
+use Rattle.ladder.specs.PlanFile.{file_length, plan_in}
+use Rattle.ladder.specs.Refusals.{◌then◌, DIM, LENGTH, SHAPE, SCALAR, ORDER, ROW, MODULUS, ELEMENT, TRAILER, BIG, dim, len, shape, step_shape, scalar, order, walk_order, answer, too_large, element, trailer, distance, big, read_refusal, plan_refusal, plan_shape, loose_refusal, scalars_in, encode_refusal, decode_refusal, check_refusal, step_refusal, trace_refusal, run_refusal, pack_refusal, unpack_refusal, list_refusal, listing_refusal}
+use Rattle.ladder.proofs.Tests.{then_first, then_next, then_assoc, then_is}
+use Rattle.ladder.proofs.Refusals.{dim_is, len_is, shape_is, step_shape_is, scalar_is, order_is, walk_order_is, answer_is, too_large_is, element_is, trailer_is, distance_is, big_is}
 
 -- ---- each operation's chain
 
 -- Encode: 1, 2, 3, 4.
-pub encode-chain : (d l : ℕ) (scalars start bits : List ℕ)
-    → encodeRefusal d l scalars start bits
-    ≡ dim d then len l then shape scalars (scalarsLength d l) then shape start (startLength d) then shape bits (bitsLength d l)
-    then scalar l (scalarsIn d l scalars)
-unfolding encodeRefusal
-encode-chain d l scalars start bits = simp then-assoc
+pub encode_chain : (d l : ℕ) (scalars start bits : List ℕ)
+    → encode_refusal d l scalars start bits
+    ≡ dim d then len l then shape scalars (scalars_length d l) then shape start (start_length d) then shape bits (bits_length d l)
+    then scalar l (scalars_in d l scalars)
+unfolding encode_refusal
+encode_chain d l scalars start bits = simp then_assoc
 
 -- What is read of a plan past its shapes: 5, 6.
-pub read-chain : (p : Plan) → readRefusal p ≡ order p.d p.start then answer p.d p.answer
-unfolding readRefusal
-read-chain p = refl
+pub read_chain : (p : Plan) → read_refusal p ≡ order p.d p.start then answer p.d p.answer
+unfolding read_refusal
+read_chain p = refl
 
 -- A loose plan, up to its own buffers: 1, 2, 3; then the other buffers of the call (3), then what is read.
-loose-chain : (p : Plan) (others : ℕ)
-    → looseRefusal p others
-    ≡ dim p.d then len p.l then shape p.start (startLength p.d) then shape p.bits (bitsLength p.d p.l)
-    then others then readRefusal p
-unfolding looseRefusal planRefusal planShape
-loose-chain p others = simp then-assoc
+loose_chain : (p : Plan) (others : ℕ)
+    → loose_refusal p others
+    ≡ dim p.d then len p.l then shape p.start (start_length p.d) then shape p.bits (bits_length p.d p.l)
+    then others then read_refusal p
+unfolding loose_refusal plan_refusal plan_shape
+loose_chain p others = simp then_assoc
 
 -- Decode: 1, 2, 3, 5, 6.
-pub decode-chain : (p : Plan) (values : List ℕ)
-    → decodeRefusal p values
-    ≡ dim p.d then len p.l then shape p.start (startLength p.d) then shape p.bits (bitsLength p.d p.l)
-    then shape values (valuesLength p.d p.l) then readRefusal p
-unfolding decodeRefusal
-decode-chain p values = loose-chain p (shape values (valuesLength p.d p.l))
+pub decode_chain : (p : Plan) (values : List ℕ)
+    → decode_refusal p values
+    ≡ dim p.d then len p.l then shape p.start (start_length p.d) then shape p.bits (bits_length p.d p.l)
+    then shape values (values_length p.d p.l) then read_refusal p
+unfolding decode_refusal
+decode_chain p values = loose_chain p (shape values (values_length p.d p.l))
 
 -- Check: 1, 2, 3, 5, 6, 4.
-pub check-chain : (p : Plan) (scalars : List ℕ)
-    → checkRefusal p scalars
-    ≡ dim p.d then len p.l then shape p.start (startLength p.d) then shape p.bits (bitsLength p.d p.l)
-    then shape scalars (scalarsLength p.d p.l) then readRefusal p
-    then scalar p.l (scalarsIn p.d p.l scalars)
-unfolding checkRefusal
-check-chain p scalars = simp (loose-chain, then-assoc)
+pub check_chain : (p : Plan) (scalars : List ℕ)
+    → check_refusal p scalars
+    ≡ dim p.d then len p.l then shape p.start (start_length p.d) then shape p.bits (bits_length p.d p.l)
+    then shape scalars (scalars_length p.d p.l) then read_refusal p
+    then scalar p.l (scalars_in p.d p.l scalars)
+unfolding check_refusal
+check_chain p scalars = simp (loose_chain, then_assoc)
 
 -- Step: 1, 5, 3.
-pub step-chain : (w : Walk) (n : ℕ) → stepRefusal w n ≡ dim w.d then walkOrder w then stepShape w.d n
-unfolding stepRefusal
-step-chain w n = refl
+pub step_chain : (w : Walk) (n : ℕ) → step_refusal w n ≡ dim w.d then walk_order w then step_shape w.d n
+unfolding step_refusal
+step_chain w n = refl
 
 -- Trace: 1, 2, 3, 5, 6.
-pub trace-chain : (p : Plan) (trace : List ℕ)
-    → traceRefusal p trace
-    ≡ dim p.d then len p.l then shape p.start (startLength p.d) then shape p.bits (bitsLength p.d p.l)
-    then shape trace (traceLength p.d p.l) then readRefusal p
-unfolding traceRefusal
-trace-chain p trace = loose-chain p (shape trace (traceLength p.d p.l))
+pub trace_chain : (p : Plan) (trace : List ℕ)
+    → trace_refusal p trace
+    ≡ dim p.d then len p.l then shape p.start (start_length p.d) then shape p.bits (bits_length p.d p.l)
+    then shape trace (trace_length p.d p.l) then read_refusal p
+unfolding trace_refusal
+trace_chain p trace = loose_chain p (shape trace (trace_length p.d p.l))
 
 -- Plain run and difference run: 1, 2, 3, 5, 6, 7, 8.
-pub run-chain : (p : Plan) (m : ℕ) (elements registers : List ℕ)
-    → runRefusal p m elements registers
-    ≡ dim p.d then len p.l then shape p.start (startLength p.d) then shape p.bits (bitsLength p.d p.l)
-    then shape elements (elementsLength p.d) then shape registers (registersLength p.d)
-    then readRefusal p then tooLarge m then element m elements
-unfolding runRefusal
-run-chain p m elements registers = simp (loose-chain, then-assoc)
+pub run_chain : (p : Plan) (m : ℕ) (elements registers : List ℕ)
+    → run_refusal p m elements registers
+    ≡ dim p.d then len p.l then shape p.start (start_length p.d) then shape p.bits (bits_length p.d p.l)
+    then shape elements (elements_length p.d) then shape registers (registers_length p.d)
+    then read_refusal p then too_large m then element m elements
+unfolding run_refusal
+run_chain p m elements registers = simp (loose_chain, then_assoc)
 
 -- Pack: 1, 2, 3, 5, 6.
-pub pack-chain : (p : Plan) (file : List ℕ)
-    → packRefusal p file
-    ≡ dim p.d then len p.l then shape p.start (startLength p.d) then shape p.bits (bitsLength p.d p.l)
-    then shape file (fileLength p.d p.l) then readRefusal p
-unfolding packRefusal
-pack-chain p file = loose-chain p (shape file (fileLength p.d p.l))
+pub pack_chain : (p : Plan) (file : List ℕ)
+    → pack_refusal p file
+    ≡ dim p.d then len p.l then shape p.start (start_length p.d) then shape p.bits (bits_length p.d p.l)
+    then shape file (file_length p.d p.l) then read_refusal p
+unfolding pack_refusal
+pack_chain p file = loose_chain p (shape file (file_length p.d p.l))
 
 -- Unpack: 9, 1, 2, 9, 5, 6.
-pub unpack-chain : (file : List ℕ)
-    → unpackRefusal file
-    ≡ trailer file then dim (planIn file).d then len (planIn file).l then distance file then readRefusal (planIn file)
-unfolding unpackRefusal planRefusal
-unpack-chain file = refl
+pub unpack_chain : (file : List ℕ)
+    → unpack_refusal file
+    ≡ trailer file then dim (plan_in file).d then len (plan_in file).l then distance file then read_refusal (plan_in file)
+unfolding unpack_refusal plan_refusal
+unpack_chain file = refl
 
 -- The listing program: 10, then as unpack.
-pub list-chain : (file : List ℕ) → listRefusal file ≡ big file then unpackRefusal file
-unfolding listRefusal
-list-chain file = refl
+pub list_chain : (file : List ℕ) → list_refusal file ≡ big file then unpack_refusal file
+unfolding list_refusal
+list_chain file = refl
 
 -- The listing: 10, 3, then as unpack.
-pub listing-chain : (file text : List ℕ) → listingRefusal file text ≡ big file then shape text longestText then unpackRefusal file
-unfolding listingRefusal
-listing-chain file text = refl
+pub listing_chain : (file text : List ℕ) → listing_refusal file text ≡ big file then shape text longest_text then unpack_refusal file
+unfolding listing_refusal
+listing_chain file text = refl
 
 -- ---- which number comes out: what stands before it is 0, and it is not
 
@@ -108,243 +108,243 @@ its_own m k is ne = ⊎_elim (λ e. absurd (ne e)) (λ e. e) is
 
 -- .. and is given before all that come after it.
 pub given : (m n k : ℕ) → (m ≡ 0) ⊎ (m ≡ k) → (m ≡ 0 → ⊥) → m then n ≡ k
-given m n k is ne = then-first m n ne ∙ its_own m k is ne
+given m n k is ne = then_first m n ne ∙ its_own m k is ne
 
 -- Encode gives 1 whatever else is wrong ..
-pub encode-dim : (d l : ℕ) (scalars start bits : List ℕ) → (dim d ≡ 0 → ⊥) → encodeRefusal d l scalars start bits ≡ DIM
-unfolding encodeRefusal
-encode-dim d l scalars start bits = given (dim d) _ DIM (dim-is d)
+pub encode-dim : (d l : ℕ) (scalars start bits : List ℕ) → (dim d ≡ 0 → ⊥) → encode_refusal d l scalars start bits ≡ DIM
+unfolding encode_refusal
+encode-dim d l scalars start bits = given (dim d) _ DIM (dim_is d)
 
 -- .. and, d being in range, 2 before 3 and 4 ..
-pub encode-len : (d l : ℕ) (scalars start bits : List ℕ) → dim d ≡ 0 → (len l ≡ 0 → ⊥) → encodeRefusal d l scalars start bits ≡ LENGTH
-unfolding encodeRefusal
+pub encode-len : (d l : ℕ) (scalars start bits : List ℕ) → dim d ≡ 0 → (len l ≡ 0 → ⊥) → encode_refusal d l scalars start bits ≡ LENGTH
+unfolding encode_refusal
 encode-len d l scalars start bits e ne = then_next (dim d) _ e ∙ given (len l) _ LENGTH (len_is l) ne
 
 module _ (d l : ℕ) (scalars start bits : List ℕ) (d-ok : dim d ≡ 0) (l-ok : len l ≡ 0) where
   -- What stands at number 3.
   abbrev encodeShapes : ℕ
-  encodeShapes = shape scalars (scalarsLength d l) then shape start (startLength d) then shape bits (bitsLength d l)
+  encodeShapes = shape scalars (scalars_length d l) then shape start (start_length d) then shape bits (bits_length d l)
 
   -- .. then 3 for any of the buffers, before 4 ..
-  pub encode-shape : (encodeShapes ≡ 0 → ⊥) → encodeRefusal d l scalars start bits ≡ SHAPE
-  unfolding encodeRefusal
+  pub encode-shape : (encodeShapes ≡ 0 → ⊥) → encode_refusal d l scalars start bits ≡ SHAPE
+  unfolding encode_refusal
   encode-shape ne =
       then_next (dim d) _ d-ok ∙ then_next (len l) _ l-ok
       ∙ given _ _ SHAPE (then_is _ _ SHAPE (shape_is scalars _) (then_is _ _ SHAPE (shape_is start _) (shape_is bits _))) ne
 
   -- .. then 4.
-  pub encode-scalar : encodeShapes ≡ 0 → (scalar l (scalarsIn d l scalars) ≡ 0 → ⊥) → encodeRefusal d l scalars start bits ≡ SCALAR
-  unfolding encodeRefusal
+  pub encode-scalar : encodeShapes ≡ 0 → (scalar l (scalars_in d l scalars) ≡ 0 → ⊥) → encode_refusal d l scalars start bits ≡ SCALAR
+  unfolding encode_refusal
   encode-scalar e ne =
-      then_next (dim d) _ d-ok ∙ then_next (len l) _ l-ok ∙ then_next _ _ e ∙ its_own _ SCALAR (scalar_is l (scalarsIn d l scalars)) ne
+      then_next (dim d) _ d-ok ∙ then_next (len l) _ l-ok ∙ then_next _ _ e ∙ its_own _ SCALAR (scalar_is l (scalars_in d l scalars)) ne
 
 -- A plan that is read, lent or in a file, with what stands at number 3: 1 whatever else is wrong ..
-plan-dim : (p : Plan) (shapes : ℕ) → (dim p.d ≡ 0 → ⊥) → planRefusal p shapes ≡ DIM
-unfolding planRefusal
-plan-dim p shapes = given (dim p.d) _ DIM (dim-is p.d)
+plan_dim : (p : Plan) (shapes : ℕ) → (dim p.d ≡ 0 → ⊥) → plan_refusal p shapes ≡ DIM
+unfolding plan_refusal
+plan_dim p shapes = given (dim p.d) _ DIM (dim_is p.d)
 
 -- .. then 2 ..
-plan-len : (p : Plan) (shapes : ℕ) → dim p.d ≡ 0 → (len p.l ≡ 0 → ⊥) → planRefusal p shapes ≡ LENGTH
-unfolding planRefusal
-plan-len p shapes e ne = then_next (dim p.d) _ e ∙ given (len p.l) _ LENGTH (len_is p.l) ne
+plan_len : (p : Plan) (shapes : ℕ) → dim p.d ≡ 0 → (len p.l ≡ 0 → ⊥) → plan_refusal p shapes ≡ LENGTH
+unfolding plan_refusal
+plan_len p shapes e ne = then_next (dim p.d) _ e ∙ given (len p.l) _ LENGTH (len_is p.l) ne
 
 module _ (p : Plan) (shapes : ℕ) (d-ok : dim p.d ≡ 0) (l-ok : len p.l ≡ 0) where
-  from-shapes : planRefusal p shapes ≡ shapes then readRefusal p
-  unfolding planRefusal
+  from-shapes : plan_refusal p shapes ≡ shapes then read_refusal p
+  unfolding plan_refusal
   from-shapes = then_next (dim p.d) _ d-ok ∙ then_next (len p.l) _ l-ok
 
   -- .. then what stands at number 3, which has one number ..
-  plan-shapes : (k : ℕ) → (shapes ≡ 0) ⊎ (shapes ≡ k) → (shapes ≡ 0 → ⊥) → planRefusal p shapes ≡ k
+  plan-shapes : (k : ℕ) → (shapes ≡ 0) ⊎ (shapes ≡ k) → (shapes ≡ 0 → ⊥) → plan_refusal p shapes ≡ k
   plan-shapes k is ne = from-shapes ∙ given shapes _ k is ne
 
   -- .. then what is read, ..
-  plan-read : shapes ≡ 0 → planRefusal p shapes ≡ readRefusal p
-  plan-read e = from-shapes ∙ then_next shapes _ e
+  plan_read : shapes ≡ 0 → plan_refusal p shapes ≡ read_refusal p
+  plan_read e = from-shapes ∙ then_next shapes _ e
 
 module _ (p : Plan) where
   -- .. of which 5 comes first ..
-  pub read-order : (order p.d p.start ≡ 0 → ⊥) → readRefusal p ≡ ORDER
-  unfolding readRefusal
-  read-order = given (order p.d p.start) _ ORDER (order_is p.d p.start)
+  pub read_order : (order p.d p.start ≡ 0 → ⊥) → read_refusal p ≡ ORDER
+  unfolding read_refusal
+  read_order = given (order p.d p.start) _ ORDER (order_is p.d p.start)
 
   -- .. then 6.
-  pub read-row : order p.d p.start ≡ 0 → (answer p.d p.answer ≡ 0 → ⊥) → readRefusal p ≡ ROW
-  unfolding readRefusal
-  read-row e ne = then_next (order p.d p.start) _ e ∙ its_own _ ROW (answer-is p.d p.answer) ne
+  pub read_row : order p.d p.start ≡ 0 → (answer p.d p.answer ≡ 0 → ⊥) → read_refusal p ≡ ROW
+  unfolding read_refusal
+  read_row e ne = then_next (order p.d p.start) _ e ∙ its_own _ ROW (answer_is p.d p.answer) ne
 
 -- Decode, trace and pack refuse a loose plan with one buffer besides, and nothing else.
-pub decode-loose : (p : Plan) (values : List ℕ) → decodeRefusal p values ≡ looseRefusal p (shape values (valuesLength p.d p.l))
-unfolding decodeRefusal
-decode-loose p values = refl
+pub decode_loose : (p : Plan) (values : List ℕ) → decode_refusal p values ≡ loose_refusal p (shape values (values_length p.d p.l))
+unfolding decode_refusal
+decode_loose p values = refl
 
-pub trace-loose : (p : Plan) (trace : List ℕ) → traceRefusal p trace ≡ looseRefusal p (shape trace (traceLength p.d p.l))
-unfolding traceRefusal
-trace-loose p trace = refl
+pub trace_loose : (p : Plan) (trace : List ℕ) → trace_refusal p trace ≡ loose_refusal p (shape trace (trace_length p.d p.l))
+unfolding trace_refusal
+trace_loose p trace = refl
 
-pub pack-loose : (p : Plan) (file : List ℕ) → packRefusal p file ≡ looseRefusal p (shape file (fileLength p.d p.l))
-unfolding packRefusal
-pack-loose p file = refl
+pub pack_loose : (p : Plan) (file : List ℕ) → pack_refusal p file ≡ loose_refusal p (shape file (file_length p.d p.l))
+unfolding pack_refusal
+pack_loose p file = refl
 
 module _ (p : Plan) (others : ℕ) where
   -- A loose plan gives 1 whatever else is wrong ..
-  pub loose-dim : (dim p.d ≡ 0 → ⊥) → looseRefusal p others ≡ DIM
-  unfolding looseRefusal
-  loose-dim = plan-dim p _
+  pub loose_dim : (dim p.d ≡ 0 → ⊥) → loose_refusal p others ≡ DIM
+  unfolding loose_refusal
+  loose_dim = plan_dim p _
 
   -- .. then 2 ..
-  pub loose-len : dim p.d ≡ 0 → (len p.l ≡ 0 → ⊥) → looseRefusal p others ≡ LENGTH
-  unfolding looseRefusal
-  loose-len = plan-len p _
+  pub loose_len : dim p.d ≡ 0 → (len p.l ≡ 0 → ⊥) → loose_refusal p others ≡ LENGTH
+  unfolding loose_refusal
+  loose_len = plan_len p _
 
   -- .. then 3, for a buffer of its own or, where these are right, for one of the others ..
-  pub loose-shape : dim p.d ≡ 0 → len p.l ≡ 0 → (others ≡ 0) ⊎ (others ≡ SHAPE) → (planShape p then others ≡ 0 → ⊥)
-      → looseRefusal p others ≡ SHAPE
-  unfolding looseRefusal planShape
-  loose-shape d-ok l-ok is =
+  pub loose_shape : dim p.d ≡ 0 → len p.l ≡ 0 → (others ≡ 0) ⊎ (others ≡ SHAPE) → (plan_shape p then others ≡ 0 → ⊥)
+      → loose_refusal p others ≡ SHAPE
+  unfolding loose_refusal plan_shape
+  loose_shape d-ok l-ok is =
       plan-shapes p _ d-ok l-ok SHAPE (then_is _ _ SHAPE (then_is _ _ SHAPE (shape_is p.start _) (shape_is p.bits _)) is)
 
   -- .. then what is read.
-  pub loose-read : dim p.d ≡ 0 → len p.l ≡ 0 → planShape p then others ≡ 0 → looseRefusal p others ≡ readRefusal p
-  unfolding looseRefusal
-  loose-read = plan-read p _
+  pub loose_read : dim p.d ≡ 0 → len p.l ≡ 0 → plan_shape p then others ≡ 0 → loose_refusal p others ≡ read_refusal p
+  unfolding loose_refusal
+  loose_read = plan_read p _
 
 -- So decode, trace and pack give 3 for a buffer of the plan's, or where these are right for their own.
 module _ (p : Plan) (d-ok : dim p.d ≡ 0) (l-ok : len p.l ≡ 0) where
-  pub decode-shape : (values : List ℕ) → (planShape p then shape values (valuesLength p.d p.l) ≡ 0 → ⊥) → decodeRefusal p values ≡ SHAPE
-  unfolding decodeRefusal
-  decode-shape values = loose-shape p _ d-ok l-ok (shape_is values _)
+  pub decode_shape : (values : List ℕ) → (plan_shape p then shape values (values_length p.d p.l) ≡ 0 → ⊥) → decode_refusal p values ≡ SHAPE
+  unfolding decode_refusal
+  decode_shape values = loose_shape p _ d-ok l-ok (shape_is values _)
 
-  pub trace-shape : (trace : List ℕ) → (planShape p then shape trace (traceLength p.d p.l) ≡ 0 → ⊥) → traceRefusal p trace ≡ SHAPE
-  unfolding traceRefusal
-  trace-shape trace = loose-shape p _ d-ok l-ok (shape_is trace _)
+  pub trace_shape : (trace : List ℕ) → (plan_shape p then shape trace (trace_length p.d p.l) ≡ 0 → ⊥) → trace_refusal p trace ≡ SHAPE
+  unfolding trace_refusal
+  trace_shape trace = loose_shape p _ d-ok l-ok (shape_is trace _)
 
-  pub pack-shape : (file : List ℕ) → (planShape p then shape file (fileLength p.d p.l) ≡ 0 → ⊥) → packRefusal p file ≡ SHAPE
-  unfolding packRefusal
-  pack-shape file = loose-shape p _ d-ok l-ok (shape_is file _)
+  pub pack_shape : (file : List ℕ) → (plan_shape p then shape file (file_length p.d p.l) ≡ 0 → ⊥) → pack_refusal p file ≡ SHAPE
+  unfolding pack_refusal
+  pack_shape file = loose_shape p _ d-ok l-ok (shape_is file _)
 
 -- A refusal that is given first is the whole one.
-loose-first : (m n k : ℕ) → m ≡ suc k → m then n ≡ suc k
-loose-first m n k e = then-first m n (λ z. omega arith) ∙ e
+loose_first : (m n k : ℕ) → m ≡ suc k → m then n ≡ suc k
+loose_first m n k e = then_first m n (λ z. omega arith) ∙ e
 
 module _ (p : Plan) (scalars : List ℕ) where
   -- The plan and the scalars' buffer.
   abbrev checkLoose : ℕ
-  checkLoose = looseRefusal p (shape scalars (scalarsLength p.d p.l))
+  checkLoose = loose_refusal p (shape scalars (scalars_length p.d p.l))
 
   -- Check gives what is wrong with the plan or a length, 6 too, before 4 ..
-  pub check-loose : (checkLoose ≡ 0 → ⊥) → checkRefusal p scalars ≡ checkLoose
-  unfolding checkRefusal
-  check-loose = then-first checkLoose _
+  pub check_loose : (checkLoose ≡ 0 → ⊥) → check_refusal p scalars ≡ checkLoose
+  unfolding check_refusal
+  check_loose = then_first checkLoose _
 
   -- .. so whatever a loose plan gives, and 3 for the scalars' buffer too ..
-  pub check-gives : (k : ℕ) → checkLoose ≡ suc k → checkRefusal p scalars ≡ suc k
-  unfolding checkRefusal
-  check-gives k = loose-first checkLoose _ k
+  pub check_gives : (k : ℕ) → checkLoose ≡ suc k → check_refusal p scalars ≡ suc k
+  unfolding check_refusal
+  check_gives k = loose_first checkLoose _ k
 
-  pub check-shape : dim p.d ≡ 0 → len p.l ≡ 0 → (planShape p then shape scalars (scalarsLength p.d p.l) ≡ 0 → ⊥)
-      → checkRefusal p scalars ≡ SHAPE
-  check-shape d-ok l-ok ne = check-gives 2 (loose-shape p _ d-ok l-ok (shape_is scalars _) ne)
+  pub check_shape : dim p.d ≡ 0 → len p.l ≡ 0 → (plan_shape p then shape scalars (scalars_length p.d p.l) ≡ 0 → ⊥)
+      → check_refusal p scalars ≡ SHAPE
+  check_shape d-ok l-ok ne = check_gives 2 (loose_shape p _ d-ok l-ok (shape_is scalars _) ne)
 
   -- .. then 4.
-  pub check-scalar : checkLoose ≡ 0 → (scalar p.l (scalarsIn p.d p.l scalars) ≡ 0 → ⊥) → checkRefusal p scalars ≡ SCALAR
-  unfolding checkRefusal
-  check-scalar e ne = then_next checkLoose _ e ∙ its_own _ SCALAR (scalar_is p.l (scalarsIn p.d p.l scalars)) ne
+  pub check_scalar : checkLoose ≡ 0 → (scalar p.l (scalars_in p.d p.l scalars) ≡ 0 → ⊥) → check_refusal p scalars ≡ SCALAR
+  unfolding check_refusal
+  check_scalar e ne = then_next checkLoose _ e ∙ its_own _ SCALAR (scalar_is p.l (scalars_in p.d p.l scalars)) ne
 
 module _ (w : Walk) (n : ℕ) where
   -- Step gives 1 whatever else is wrong ..
-  pub step-dim : (dim w.d ≡ 0 → ⊥) → stepRefusal w n ≡ DIM
-  unfolding stepRefusal
-  step-dim = given (dim w.d) _ DIM (dim-is w.d)
+  pub step-dim : (dim w.d ≡ 0 → ⊥) → step_refusal w n ≡ DIM
+  unfolding step_refusal
+  step-dim = given (dim w.d) _ DIM (dim_is w.d)
 
   -- .. then 5 ..
-  pub step-order : dim w.d ≡ 0 → (walkOrder w ≡ 0 → ⊥) → stepRefusal w n ≡ ORDER
-  unfolding stepRefusal
-  step-order e ne = then_next (dim w.d) _ e ∙ given (walkOrder w) _ ORDER (walkOrder-is w) ne
+  pub step-order : dim w.d ≡ 0 → (walk_order w ≡ 0 → ⊥) → step_refusal w n ≡ ORDER
+  unfolding step_refusal
+  step-order e ne = then_next (dim w.d) _ e ∙ given (walk_order w) _ ORDER (walk_order_is w) ne
 
   -- .. then 3.
-  pub step-shape : dim w.d ≡ 0 → walkOrder w ≡ 0 → (stepShape w.d n ≡ 0 → ⊥) → stepRefusal w n ≡ SHAPE
-  unfolding stepRefusal
-  step-shape e f ne = then_next (dim w.d) _ e ∙ then_next (walkOrder w) _ f ∙ its_own _ SHAPE (stepShape-is w.d n) ne
+  pub step-shape : dim w.d ≡ 0 → walk_order w ≡ 0 → (step_shape w.d n ≡ 0 → ⊥) → step_refusal w n ≡ SHAPE
+  unfolding step_refusal
+  step-shape e f ne = then_next (dim w.d) _ e ∙ then_next (walk_order w) _ f ∙ its_own _ SHAPE (step_shape_is w.d n) ne
 
 module _ (p : Plan) (m : ℕ) (elements registers : List ℕ) where
   -- The plan and both other buffers.
   abbrev runLoose : ℕ
-  runLoose = looseRefusal p (shape elements (elementsLength p.d) then shape registers (registersLength p.d))
+  runLoose = loose_refusal p (shape elements (elements_length p.d) then shape registers (registers_length p.d))
 
   -- A run gives what is wrong with the plan or a length before 7 and 8 ..
-  pub run-loose : (runLoose ≡ 0 → ⊥) → runRefusal p m elements registers ≡ runLoose
-  unfolding runRefusal
-  run-loose = then-first runLoose _
+  pub run_loose : (runLoose ≡ 0 → ⊥) → run_refusal p m elements registers ≡ runLoose
+  unfolding run_refusal
+  run_loose = then_first runLoose _
 
   -- .. so whatever a loose plan gives, and 3 for its two buffers too ..
-  pub run-gives : (k : ℕ) → runLoose ≡ suc k → runRefusal p m elements registers ≡ suc k
-  unfolding runRefusal
-  run-gives k = loose-first runLoose _ k
+  pub run_gives : (k : ℕ) → runLoose ≡ suc k → run_refusal p m elements registers ≡ suc k
+  unfolding run_refusal
+  run_gives k = loose_first runLoose _ k
 
-  pub run-shape : dim p.d ≡ 0 → len p.l ≡ 0
-      → (planShape p then shape elements (elementsLength p.d) then shape registers (registersLength p.d) ≡ 0 → ⊥)
-      → runRefusal p m elements registers ≡ SHAPE
-  run-shape d-ok l-ok ne = run-gives 2 (loose-shape p _ d-ok l-ok (then_is _ _ SHAPE (shape_is elements _) (shape_is registers _)) ne)
+  pub run_shape : dim p.d ≡ 0 → len p.l ≡ 0
+      → (plan_shape p then shape elements (elements_length p.d) then shape registers (registers_length p.d) ≡ 0 → ⊥)
+      → run_refusal p m elements registers ≡ SHAPE
+  run_shape d-ok l-ok ne = run_gives 2 (loose_shape p _ d-ok l-ok (then_is _ _ SHAPE (shape_is elements _) (shape_is registers _)) ne)
 
   -- .. then 7 ..
-  pub run-modulus : runLoose ≡ 0 → (tooLarge m ≡ 0 → ⊥) → runRefusal p m elements registers ≡ MODULUS
-  unfolding runRefusal
-  run-modulus e ne = then_next runLoose _ e ∙ given (tooLarge m) _ MODULUS (tooLarge-is m) ne
+  pub run_modulus : runLoose ≡ 0 → (too_large m ≡ 0 → ⊥) → run_refusal p m elements registers ≡ MODULUS
+  unfolding run_refusal
+  run_modulus e ne = then_next runLoose _ e ∙ given (too_large m) _ MODULUS (too_large_is m) ne
 
   -- .. then 8.
-  pub run-element : runLoose ≡ 0 → tooLarge m ≡ 0 → (element m elements ≡ 0 → ⊥) → runRefusal p m elements registers ≡ ELEMENT
-  unfolding runRefusal
-  run-element e f ne = then_next runLoose _ e ∙ then_next (tooLarge m) _ f ∙ its_own _ ELEMENT (element-is m elements) ne
+  pub run_element : runLoose ≡ 0 → too_large m ≡ 0 → (element m elements ≡ 0 → ⊥) → run_refusal p m elements registers ≡ ELEMENT
+  unfolding run_refusal
+  run_element e f ne = then_next runLoose _ e ∙ then_next (too_large m) _ f ∙ its_own _ ELEMENT (element_is m elements) ne
 
 module _ (file : List ℕ) where
   -- Unpack gives 9 for a file too short or a wrong mark before all else ..
-  pub unpack-trailer : (trailer file ≡ 0 → ⊥) → unpackRefusal file ≡ TRAILER
-  unfolding unpackRefusal
-  unpack-trailer = given (trailer file) _ TRAILER (trailer-is file)
+  pub unpack_trailer : (trailer file ≡ 0 → ⊥) → unpack_refusal file ≡ TRAILER
+  unfolding unpack_refusal
+  unpack_trailer = given (trailer file) _ TRAILER (trailer_is file)
 
   module _ (marked : trailer file ≡ 0) where
-    past-trailer : unpackRefusal file ≡ planRefusal (planIn file) (distance file)
-    unfolding unpackRefusal
+    past-trailer : unpack_refusal file ≡ plan_refusal (plan_in file) (distance file)
+    unfolding unpack_refusal
     past-trailer = then_next (trailer file) _ marked
 
     -- .. then 1 ..
-    pub unpack-dim : (dim (planIn file).d ≡ 0 → ⊥) → unpackRefusal file ≡ DIM
-    unpack-dim ne = past-trailer ∙ plan-dim (planIn file) (distance file) ne
+    pub unpack_dim : (dim (plan_in file).d ≡ 0 → ⊥) → unpack_refusal file ≡ DIM
+    unpack_dim ne = past-trailer ∙ plan_dim (plan_in file) (distance file) ne
 
     -- .. then 2 ..
-    pub unpack-len : dim (planIn file).d ≡ 0 → (len (planIn file).l ≡ 0 → ⊥) → unpackRefusal file ≡ LENGTH
-    unpack-len d-ok ne = past-trailer ∙ plan-len (planIn file) (distance file) d-ok ne
+    pub unpack_len : dim (plan_in file).d ≡ 0 → (len (plan_in file).l ≡ 0 → ⊥) → unpack_refusal file ≡ LENGTH
+    unpack_len d-ok ne = past-trailer ∙ plan_len (plan_in file) (distance file) d-ok ne
 
-    module _ (d-ok : dim (planIn file).d ≡ 0) (l-ok : len (planIn file).l ≡ 0) where
+    module _ (d-ok : dim (plan_in file).d ≡ 0) (l-ok : len (plan_in file).l ≡ 0) where
       -- .. then 9 for the distance ..
-      pub unpack-distance : (distance file ≡ 0 → ⊥) → unpackRefusal file ≡ TRAILER
-      unpack-distance ne = past-trailer ∙ plan-shapes (planIn file) (distance file) d-ok l-ok TRAILER (distance_is file) ne
+      pub unpack_distance : (distance file ≡ 0 → ⊥) → unpack_refusal file ≡ TRAILER
+      unpack_distance ne = past-trailer ∙ plan-shapes (plan_in file) (distance file) d-ok l-ok TRAILER (distance_is file) ne
 
       -- .. then what is read.
-      pub unpack-read : distance file ≡ 0 → unpackRefusal file ≡ readRefusal (planIn file)
-      unpack-read e = past-trailer ∙ plan-read (planIn file) (distance file) d-ok l-ok e
+      pub unpack_read : distance file ≡ 0 → unpack_refusal file ≡ read_refusal (plan_in file)
+      unpack_read e = past-trailer ∙ plan_read (plan_in file) (distance file) d-ok l-ok e
 
   -- The listing program gives 10 before all else, then what unpack gives.
-  pub list-big : (big file ≡ 0 → ⊥) → listRefusal file ≡ BIG
-  unfolding listRefusal
-  list-big = given (big file) _ BIG (big-is file)
+  pub list_big : (big file ≡ 0 → ⊥) → list_refusal file ≡ BIG
+  unfolding list_refusal
+  list_big = given (big file) _ BIG (big_is file)
 
-  pub list-unpack : big file ≡ 0 → listRefusal file ≡ unpackRefusal file
-  unfolding listRefusal
-  list-unpack = then_next (big file) _
+  pub list_unpack : big file ≡ 0 → list_refusal file ≡ unpack_refusal file
+  unfolding list_refusal
+  list_unpack = then_next (big file) _
 
   module _ (text : List ℕ) where
     -- The listing gives 10 before all else ..
-    pub listing-big : (big file ≡ 0 → ⊥) → listingRefusal file text ≡ BIG
-    unfolding listingRefusal
-    listing-big = given (big file) _ BIG (big-is file)
+    pub listing_big : (big file ≡ 0 → ⊥) → listing_refusal file text ≡ BIG
+    unfolding listing_refusal
+    listing_big = given (big file) _ BIG (big_is file)
 
     -- .. then 3 ..
-    pub listing-shape : big file ≡ 0 → (shape text longestText ≡ 0 → ⊥) → listingRefusal file text ≡ SHAPE
-    unfolding listingRefusal
-    listing-shape e ne = then_next (big file) _ e ∙ given (shape text longestText) _ SHAPE (shape_is text longestText) ne
+    pub listing_shape : big file ≡ 0 → (shape text longest_text ≡ 0 → ⊥) → listing_refusal file text ≡ SHAPE
+    unfolding listing_refusal
+    listing_shape e ne = then_next (big file) _ e ∙ given (shape text longest_text) _ SHAPE (shape_is text longest_text) ne
 
     -- .. then what unpack gives.
-    pub listing-unpack : big file ≡ 0 → shape text longestText ≡ 0 → listingRefusal file text ≡ unpackRefusal file
-    unfolding listingRefusal
-    listing-unpack e f = then_next (big file) _ e ∙ then_next (shape text longestText) _ f
+    pub listing_unpack : big file ≡ 0 → shape text longest_text ≡ 0 → listing_refusal file text ≡ unpack_refusal file
+    unfolding listing_refusal
+    listing_unpack e f = then_next (big file) _ e ∙ then_next (shape text longest_text) _ f

@@ -8,7 +8,7 @@ use native.Mathlib.Nat.{add-mul, mul-add, mod-add-mod, add-mul-mod_self_right, z
 use native.Mathlib.Omega.{arith}
 use lib.IntN.{ℤ, pos, negsuc}
 use lib.ListN.{get_or}
-use Rattle.ladder.specs.Registers.{modulus, timesSigned, signedSum, differenceAdd}
+use Rattle.ladder.specs.Registers.{modulus, times_signed, signed_sum, difference_add}
 
 -- The elements with a positive coefficient, each as often as it says ..
 unfoldable pub plus : List ℤ → List ℕ → ℕ
@@ -26,8 +26,8 @@ minus (negsuc c ∷ v) (e ∷ es) = suc c * e + minus v es
 
 -- The signed sum with the negative part is the positive part and a multiple of the modulus.
 signed_parts : (m : ℕ) (v : List ℤ) (es : List ℕ) → ((j : ℕ) → get_or es j 0 ≤ modulus m)
-    → (q : ℕ) × (signedSum m v es + minus v es ≡ plus v es + q * modulus m)
-unfolding signedSum timesSigned plus minus
+    → (q : ℕ) × (signed_sum m v es + minus v es ≡ plus v es + q * modulus m)
+unfolding signed_sum times_signed plus minus
 signed_parts m [] es f = (0, omega (arith, zero-mul (modulus m)))
 signed_parts m (c ∷ v) [] f = (0, omega (arith, zero-mul (modulus m)))
 signed_parts m (pos c ∷ v) (e ∷ es) f =
@@ -42,12 +42,12 @@ signed_parts m (negsuc c ∷ v) (e ∷ es) f =
 
 -- The addition, with the elements of negative coefficient added, is twice the register and those of positive coefficient, by the
 -- modulus.
-pub differenceAdd-is : (m : ℕ) (es : List ℕ) → ((j : ℕ) → get_or es j 0 ≤ modulus m) → (a : ℕ) (v : List ℤ)
-    → (differenceAdd m es a v + minus v es) % modulus m ≡ (2 * a + plus v es) % modulus m
-unfolding differenceAdd
-differenceAdd-is m es f a v =
+pub difference_add_is : (m : ℕ) (es : List ℕ) → ((j : ℕ) → get_or es j 0 ≤ modulus m) → (a : ℕ) (v : List ℤ)
+    → (difference_add m es a v + minus v es) % modulus m ≡ (2 * a + plus v es) % modulus m
+unfolding difference_add
+difference_add_is m es f a v =
     let r = signed_parts m v es f in
-    let parts : 2 * a + signedSum m v es + minus v es ≡ 2 * a + plus v es + r.0 * modulus m = omega (arith, r.1) in
-    mod-add-mod (2 * a + signedSum m v es) (modulus m) (minus v es)
+    let parts : 2 * a + signed_sum m v es + minus v es ≡ 2 * a + plus v es + r.0 * modulus m = omega (arith, r.1) in
+    mod-add-mod (2 * a + signed_sum m v es) (modulus m) (minus v es)
     ∙ ap (λ n. n % modulus m) parts
     ∙ add-mul-mod_self_right (2 * a + plus v es) r.0 (modulus m)

@@ -32,25 +32,25 @@ past_word w ws q r h =
     ∙ ap (λ m. m / 2 ^ (64 * q + r)) (omega arith)
 
 -- j bits from bit r of word q on, all of them in that word.
-pub number-field : (ws : List ℕ) → ((i : ℕ) → get_or ws i 0 < 2 ^ 64) → (q r j : ℕ) → j + r ≤ 64
+pub number_field : (ws : List ℕ) → ((i : ℕ) → get_or ws i 0 < 2 ^ 64) → (q r j : ℕ) → j + r ≤ 64
     → number_of ws / 2 ^ (64 * q + r) % 2 ^ j ≡ get_or ws q 0 / 2 ^ r % 2 ^ j
 unfolding number_of
-number-field [] h q r j l = ap (λ m. m % 2 ^ j) (zero-div (2 ^ (64 * q + r)) ∙ sym (zero-div (2 ^ r)))
-number-field (w ∷ ws) h zero r j l =
+number_field [] h q r j l = ap (λ m. m % 2 ^ j) (zero-div (2 ^ (64 * q + r)) ∙ sym (zero-div (2 ^ r)))
+number_field (w ∷ ws) h zero r j l =
     let first : 64 * 0 + r ≡ r = omega arith in
     ap (λ e. (w + 2 ^ 64 * number_of ws) / 2 ^ e % 2 ^ j) first
     ∙ low_field (w + 2 ^ 64 * number_of ws) 64 r j l
     ∙ ap (λ m. m / 2 ^ r % 2 ^ j) (omega (arith, h zero))
-number-field (w ∷ ws) h (suc q) r j l =
-    ap (λ m. m % 2 ^ j) (past_word w ws q r (h zero)) ∙ number-field ws (λ i. h (suc i)) q r j l
+number_field (w ∷ ws) h (suc q) r j l =
+    ap (λ m. m % 2 ^ j) (past_word w ws q r (h zero)) ∙ number_field ws (λ i. h (suc i)) q r j l
 
 -- What is left past all words but the top one is in the top word.
-pub number-top : (ws : List ℕ) → ((i : ℕ) → get_or ws i 0 < 2 ^ 64) → (q r : ℕ) → length ws ≡ suc q
+pub number_top : (ws : List ℕ) → ((i : ℕ) → get_or ws i 0 < 2 ^ 64) → (q r : ℕ) → length ws ≡ suc q
     → number_of ws / 2 ^ (64 * q + r) ≡ get_or ws q 0 / 2 ^ r
 unfolding number_of
-number-top [] h q r e = absurd (suc-ne-zero q (sym e))
-number-top (w ∷ []) h zero r e =
+number_top [] h q r e = absurd (suc-ne-zero q (sym e))
+number_top (w ∷ []) h zero r e =
     let first : 64 * 0 + r ≡ r = omega arith in
     ap (λ k. (w + 2 ^ 64 * 0) / 2 ^ k) first ∙ ap (λ m. m / 2 ^ r) (omega arith)
-number-top (w ∷ v ∷ ws) h zero r e = absurd (omega arith)
-number-top (w ∷ ws) h (suc q) r e = past_word w ws q r (h zero) ∙ number-top ws (λ i. h (suc i)) q r (suc_inj e)
+number_top (w ∷ v ∷ ws) h zero r e = absurd (omega arith)
+number_top (w ∷ ws) h (suc q) r e = past_word w ws q r (h zero) ∙ number_top ws (λ i. h (suc i)) q r (suc_inj e)

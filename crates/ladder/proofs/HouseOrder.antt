@@ -10,31 +10,31 @@ use lib.ListN.{length, get_or, length-map, length-append, get_or-append}
 use lib.Seq.{get_or-append-add}
 use Rattle.ladder.specs.Lists.{tabulate}
 use Rattle.ladder.specs.Matrix.{Arrangement}
-use Rattle.ladder.specs.Encoding.{picked, passed, houseOrder}
+use Rattle.ladder.specs.Encoding.{picked, passed, house_order}
 use Rattle.ladder.proofs.Lists.{length-tabulate, get_d_tabulate, get_d_map, count-append}
-use Rattle.ladder.proofs.Order.{arrangement-by-counts, rising-arrangement, count-picked, length-picked, length-passed}
+use Rattle.ladder.proofs.Order.{arrangement_by_counts, rising_arrangement, count-picked, length-picked, length-passed}
 use Rattle.ladder.proofs.Encoding.{OddFirst}
 
 -- What is picked stood at a place with bit 1, what is passed at a place with bit 0.
-picked-from : (S r : List ℕ) (k : ℕ) → k < length (picked S r)
+picked_from : (S r : List ℕ) (k : ℕ) → k < length (picked S r)
     → (m : ℕ) × (m < length S) × (get_or (picked S r) k 0 ≡ get_or S m 0) × (0 < get_or r m 0)
 unfolding picked
-picked-from [] r k h = absurd (not-suc-le-zero h)
-picked-from (j ∷ S) [] k h = absurd (not-suc-le-zero h)
-picked-from (j ∷ S) (zero ∷ r) k h = let m = picked-from S r k h in (suc m.0, omega (arith, m.1), m.2, m.3)
-picked-from (j ∷ S) (suc b ∷ r) zero h = (zero, omega arith, refl, omega arith)
-picked-from (j ∷ S) (suc b ∷ r) (suc k) h =
-    let m = picked-from S r k (le_of_suc-le-suc h) in (suc m.0, omega (arith, m.1), m.2, m.3)
+picked_from [] r k h = absurd (not-suc-le-zero h)
+picked_from (j ∷ S) [] k h = absurd (not-suc-le-zero h)
+picked_from (j ∷ S) (zero ∷ r) k h = let m = picked_from S r k h in (suc m.0, omega (arith, m.1), m.2, m.3)
+picked_from (j ∷ S) (suc b ∷ r) zero h = (zero, omega arith, refl, omega arith)
+picked_from (j ∷ S) (suc b ∷ r) (suc k) h =
+    let m = picked_from S r k (le_of_suc-le-suc h) in (suc m.0, omega (arith, m.1), m.2, m.3)
 
-passed-from : (S r : List ℕ) (k : ℕ) → k < length (passed S r)
+passed_from : (S r : List ℕ) (k : ℕ) → k < length (passed S r)
     → (m : ℕ) × (m < length S) × (get_or (passed S r) k 0 ≡ get_or S m 0) × (get_or r m 0 ≡ 0)
 unfolding passed
-passed-from [] r k h = absurd (not-suc-le-zero h)
-passed-from (j ∷ S) [] k h = absurd (not-suc-le-zero h)
-passed-from (j ∷ S) (zero ∷ r) zero h = (zero, omega arith, refl, refl)
-passed-from (j ∷ S) (zero ∷ r) (suc k) h =
-    let m = passed-from S r k (le_of_suc-le-suc h) in (suc m.0, omega (arith, m.1), m.2, m.3)
-passed-from (j ∷ S) (suc b ∷ r) k h = let m = passed-from S r k h in (suc m.0, omega (arith, m.1), m.2, m.3)
+passed_from [] r k h = absurd (not-suc-le-zero h)
+passed_from (j ∷ S) [] k h = absurd (not-suc-le-zero h)
+passed_from (j ∷ S) (zero ∷ r) zero h = (zero, omega arith, refl, refl)
+passed_from (j ∷ S) (zero ∷ r) (suc k) h =
+    let m = passed_from S r k (le_of_suc-le-suc h) in (suc m.0, omega (arith, m.1), m.2, m.3)
+passed_from (j ∷ S) (suc b ∷ r) k h = let m = passed_from S r k h in (suc m.0, omega (arith, m.1), m.2, m.3)
 
 module _ (d : ℕ) (ks : List ℕ) (wide : length ks ≡ d) where
   abbrev rising : List ℕ
@@ -47,10 +47,10 @@ module _ (d : ℕ) (ks : List ℕ) (wide : length ks ≡ d) where
   lengths = length-tabulate d (λ j. j) ∙ sym wide ∙ sym (length-map ks (λ n. n % 2))
 
   -- The house order is an arrangement ..
-  pub house-arrangement : Arrangement d (houseOrder d ks)
-  unfolding houseOrder
-  house-arrangement =
-      arrangement-by-counts (rising-arrangement d) (picked rising parities ++ passed rising parities)
+  pub house_arrangement : Arrangement d (house_order d ks)
+  unfolding house_order
+  house_arrangement =
+      arrangement_by_counts (rising_arrangement d) (picked rising parities ++ passed rising parities)
       (omega (
         arith,
         length-append (picked rising parities) (passed rising parities),
@@ -65,18 +65,18 @@ module _ (d : ℕ) (ks : List ℕ) (wide : length ks ≡ d) where
       let q : m < d = omega (arith, length-tabulate d (λ (j : ℕ). j)) in
       get_d_map (λ n. n % 2) ks m 0 0 (omega arith) ∙ ap (λ c. get_or ks c 0 % 2) (sym (get_d_tabulate d (λ j. j) m 0 q))
 
-  first-odd : (k : ℕ) → k < length (picked rising parities) → get_or ks (get_or (houseOrder d ks) k 0) 0 % 2 ≡ 1
-  unfolding houseOrder
+  first-odd : (k : ℕ) → k < length (picked rising parities) → get_or ks (get_or (house_order d ks) k 0) 0 % 2 ≡ 1
+  unfolding house_order
   first-odd k h =
-      let m = picked-from rising parities k h in
+      let m = picked_from rising parities k h in
       ap (λ c. get_or ks c 0 % 2) (get_or-append (picked rising parities) (passed rising parities) 0 k h ∙ m.2)
       ∙ omega (arith, parity-at m.0 m.1, m.3)
 
-  then-even : (k : ℕ) → k < d → length (picked rising parities) ≤ k → get_or ks (get_or (houseOrder d ks) k 0) 0 % 2 ≡ 0
-  unfolding houseOrder
+  then-even : (k : ℕ) → k < d → length (picked rising parities) ≤ k → get_or ks (get_or (house_order d ks) k 0) 0 % 2 ≡ 0
+  unfolding house_order
   then-even k h q =
       let i = k - length (picked rising parities) in
-      let m = passed-from rising parities i
+      let m = passed_from rising parities i
       (omega (arith, length-picked rising parities lengths, length-passed rising parities lengths, length-map ks (λ n. n % 2))) in
       let e : length (picked rising parities) + i ≡ k = omega arith in
       ap (λ c. get_or ks c 0 % 2)
@@ -86,11 +86,11 @@ module _ (d : ℕ) (ks : List ℕ) (wide : length ks ≡ d) where
       ∙ sym (parity-at m.0 m.1) ∙ m.3
 
   -- .. with every odd scalar's column before every even one's.
-  pub house-odd-first : OddFirst d ks (houseOrder d ks)
-  house-odd-first = record { before = λ k m h q o e. go k m h q o e (dec_le (suc k) (length (picked rising parities))) (dec_le (suc m) (length (picked rising parities))) }
+  pub house_odd_first : OddFirst d ks (house_order d ks)
+  house_odd_first = record { before = λ k m h q o e. go k m h q o e (dec_le (suc k) (length (picked rising parities))) (dec_le (suc m) (length (picked rising parities))) }
     where
-      go : (k m : ℕ) → k < d → m < d → get_or ks (get_or (houseOrder d ks) k 0) 0 % 2 ≡ 1
-          → get_or ks (get_or (houseOrder d ks) m 0) 0 % 2 ≡ 0
+      go : (k m : ℕ) → k < d → m < d → get_or ks (get_or (house_order d ks) k 0) 0 % 2 ≡ 1
+          → get_or ks (get_or (house_order d ks) m 0) 0 % 2 ≡ 0
           → Dec (k < length (picked rising parities)) → Dec (m < length (picked rising parities)) → k < m
       go k m h q o e x (yes y) = absurd (omega (arith, first-odd m y))
       go k m h q o e (yes x) (no y) = omega arith

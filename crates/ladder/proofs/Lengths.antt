@@ -6,53 +6,53 @@ use mathlib.Core.List.{List}
 use native.Mathlib.Omega.{arith}
 use lib.ListN.{length, length-append, length-map}
 use Rattle.ladder.specs.Lists.{joined}
-use Rattle.ladder.specs.Numbers.{bytesFor, packBits, bitsLength, startLength, valueWords, valuesLength}
+use Rattle.ladder.specs.Numbers.{bytes_for, pack_bits, bits_length, start_length, value_words, values_length}
 use Rattle.ladder.specs.Matrix.{Arrangement}
-use Rattle.ladder.specs.Plan.{Plan, startOrder, stepBits, answerRow, valuesIn}
-use Rattle.ladder.specs.Encoding.{encodedStart, encodedBits, encodeWith}
-use Rattle.ladder.specs.PlanFile.{mark, trailerSize, bodyLength, fileLength, twoBytes, fourBytes, fileOf}
-use Rattle.ladder.specs.Refusals.{planRefusal, planShape, looseRefusal}
+use Rattle.ladder.specs.Plan.{Plan, start_order, step_bits, answer_row, values_in}
+use Rattle.ladder.specs.Encoding.{encoded_start, encoded_bits, encode_with}
+use Rattle.ladder.specs.PlanFile.{mark, trailer_size, body_length, file_length, two_bytes, four_bytes, file_of}
+use Rattle.ladder.specs.Refusals.{plan_refusal, plan_shape, loose_refusal}
 use Rattle.ladder.proofs.Lists.{length-joined}
-use Rattle.ladder.proofs.Numbers.{length-wordsOfAll}
-use Rattle.ladder.proofs.Bits.{length-packBits, length-stepBits}
-use Rattle.ladder.proofs.Encoding.{start-arranged, length-encodedBits}
+use Rattle.ladder.proofs.Numbers.{length-words_of_all}
+use Rattle.ladder.proofs.Bits.{length-pack_bits, length-step_bits}
+use Rattle.ladder.proofs.Encoding.{start_arranged, length-encoded_bits}
 use Rattle.ladder.proofs.Tests.{none_then}
-use Rattle.ladder.proofs.Refusals.{Accepted, shape-none, accept}
-use Rattle.ladder.proofs.Demand2.{answer-wide, encoded-accepted}
+use Rattle.ladder.proofs.Refusals.{Accepted, shape_none, accept}
+use Rattle.ladder.proofs.Demand2.{answer_wide, encoded_accepted}
 
 -- Decoding writes d values.
-pub values_length : (p : Plan) → Accepted p → length (valuesIn p) ≡ valuesLength p.d p.l
-unfolding valuesIn valuesLength
-values_length p ok =
-    length-wordsOfAll (valueWords p.l) (answerRow p) ∙ ap (λ n. n * valueWords p.l) (answer-wide p ok)
+pub values_length_lem : (p : Plan) → Accepted p → length (values_in p) ≡ values_length p.d p.l
+unfolding values_in values_length
+values_length_lem p ok =
+    length-words_of_all (value_words p.l) (answer_row p) ∙ ap (λ n. n * value_words p.l) (answer_wide p ok)
 
 -- l steps of d bits are packed into the bytes of a plan's bits.
-pub packed-length : (d l : ℕ) (f : ℕ → List ℕ) → ((s : ℕ) → length (f s) ≡ d) → length (packBits (joined l f)) ≡ bitsLength d l
-unfolding bitsLength
-packed-length d l f e = length-packBits (joined l f) ∙ ap bytesFor (length-joined d l f (λ s h. e s))
+pub packed_length : (d l : ℕ) (f : ℕ → List ℕ) → ((s : ℕ) → length (f s) ≡ d) → length (pack_bits (joined l f)) ≡ bits_length d l
+unfolding bits_length
+packed_length d l f e = length-pack_bits (joined l f) ∙ ap bytes_for (length-joined d l f (λ s h. e s))
 
 module _ {d : ℕ} (l : ℕ) (ks : List ℕ) {E : List ℕ} (a : Arrangement d E) where
   -- An encoded plan's start order and bits have their lengths ..
-  pub encoded-shape : planShape (encodeWith d l ks E) ≡ 0
-  unfolding planShape encodeWith startLength
+  pub encoded-shape : plan_shape (encode_with d l ks E) ≡ 0
+  unfolding plan_shape encode_with start_length
   encoded-shape =
       none_then _ _
-      ((shape-none _ _).1 (length-map (encodedStart l ks E) suc ∙ (start-arranged l ks a).long))
-      ((shape-none _ _).1 (packed-length d l (encodedBits l ks E) (length-encodedBits l ks a)))
+      ((shape_none _ _).1 (length-map (encoded_start l ks E) suc ∙ (start_arranged l ks a).long))
+      ((shape_none _ _).1 (packed_length d l (encoded_bits l ks E) (length-encoded_bits l ks a)))
 
   -- .. so no call refuses it.
-  pub encoded-not-refused : length ks ≡ d → 1 ≤ d → d ≤ 8 → 1 ≤ l → l ≤ 576 → looseRefusal (encodeWith d l ks E) 0 ≡ 0
-  unfolding looseRefusal
-  encoded-not-refused wide h₁ h₂ h₃ h₄ =
-      ap (planRefusal (encodeWith d l ks E)) (none_then _ _ encoded-shape refl)
-      ∙ accept (encodeWith d l ks E) (encoded-accepted l ks a wide h₁ h₂ h₃ h₄)
+  pub encoded_not_refused : length ks ≡ d → 1 ≤ d → d ≤ 8 → 1 ≤ l → l ≤ 576 → loose_refusal (encode_with d l ks E) 0 ≡ 0
+  unfolding loose_refusal
+  encoded_not_refused wide h₁ h₂ h₃ h₄ =
+      ap (plan_refusal (encode_with d l ks E)) (none_then _ _ encoded-shape refl)
+      ∙ accept (encode_with d l ks E) (encoded_accepted l ks a wide h₁ h₂ h₃ h₄)
 
 -- An accepted plan's start order has d places.
-pub start-long : (p : Plan) → Accepted p → length p.start ≡ p.d
-unfolding startOrder
-start-long p ok = sym (length-map p.start pred) ∙ ok.start.long
+pub start_long_lem : (p : Plan) → Accepted p → length p.start ≡ p.d
+unfolding start_order
+start_long_lem p ok = sym (length-map p.start pred) ∙ ok.start.long
 
 -- A plan's file has its length.
-pub file-length : (p : Plan) → length p.start ≡ p.d → length (fileOf p) ≡ fileLength p.d p.l
-unfolding fileOf fileLength bodyLength trailerSize twoBytes fourBytes mark
-file-length p e = simp length-append (omega (arith, packed-length p.d p.l (stepBits p) (length-stepBits p)))
+pub file_length_lem : (p : Plan) → length p.start ≡ p.d → length (file_of p) ≡ file_length p.d p.l
+unfolding file_of file_length body_length trailer_size two_bytes four_bytes mark
+file_length_lem p e = simp length-append (omega (arith, packed_length p.d p.l (step_bits p) (length-step_bits p)))

@@ -39,20 +39,20 @@ unfolding tabulate
 map-tabulate g zero f = refl
 map-tabulate g (suc n) f = ap (λ l. g (f 0) ∷ l) (map-tabulate g n (λ k. f (suc k)))
 
-pub tabulate-getD : {A : Type 0} (l : List A) (z : A) → tabulate (length l) (λ k. get_or l k z) ≡ l
+pub tabulate-get_or : {A : Type 0} (l : List A) (z : A) → tabulate (length l) (λ k. get_or l k z) ≡ l
 unfolding tabulate
-tabulate-getD [] z = refl
-tabulate-getD (a ∷ l) z = ap (λ rest. a ∷ rest) (tabulate-getD l z)
+tabulate-get_or [] z = refl
+tabulate-get_or (a ∷ l) z = ap (λ rest. a ∷ rest) (tabulate-get_or l z)
 
 -- A list of n + m elements is one of n, then one of m.
-pub tabulate-add : {A : Type 0} (n m : ℕ) (f : ℕ → A) → tabulate (n + m) f ≡ tabulate n f ++ tabulate m (λ k. f (n + k))
+pub tabulate_add : {A : Type 0} (n m : ℕ) (f : ℕ → A) → tabulate (n + m) f ≡ tabulate n f ++ tabulate m (λ k. f (n + k))
 unfolding tabulate
-tabulate-add zero m f =
+tabulate_add zero m f =
     ap (λ k. tabulate k f) (zero-add m) ∙ tabulate-same m f (λ k. f (0 + k)) (λ k h. ap f (sym (zero-add k)))
-tabulate-add (suc n) m f =
+tabulate_add (suc n) m f =
     ap (λ k. tabulate k f) (suc-add n m)
     ∙ ap (λ rest. f zero ∷ rest)
-    (tabulate-add n m (λ k. f (suc k))
+    (tabulate_add n m (λ k. f (suc k))
     ∙ ap (λ rest. tabulate n (λ k. f (suc k)) ++ rest)
     (tabulate-same m (λ k. f (suc (n + k))) (λ k. f (suc n + k)) (λ k h. ap f (sym (suc-add n k)))))
 
@@ -65,17 +65,17 @@ tabulate-suc (suc n) f = ap (λ rest. f zero ∷ rest) (tabulate-suc n (λ k. f 
 -- ---- elements of a list of zeros, of two lists and of a mapped list
 
 -- Every element of a list of zeros is 0, and past its end too.
-pub getD-zeros : (n j : ℕ) → get_or (replicate n zero) j 0 ≡ 0
-getD-zeros zero j = refl
-getD-zeros (suc n) zero = refl
-getD-zeros (suc n) (suc j) = getD-zeros n j
+pub get_or_zeros : (n j : ℕ) → get_or (replicate n zero) j 0 ≡ 0
+get_or_zeros zero j = refl
+get_or_zeros (suc n) zero = refl
+get_or_zeros (suc n) (suc j) = get_or_zeros n j
 
 -- Where the elements of two lists are below a bound, so are those of both.
-pub append-below : (b : ℕ) (s t : List ℕ) → ((i : ℕ) → get_or s i 0 < b) → ((i : ℕ) → get_or t i 0 < b)
+pub append_below : (b : ℕ) (s t : List ℕ) → ((i : ℕ) → get_or s i 0 < b) → ((i : ℕ) → get_or t i 0 < b)
     → (i : ℕ) → get_or (s ++ t) i 0 < b
-append-below b [] t h g i = g i
-append-below b (a ∷ s) t h g zero = h zero
-append-below b (a ∷ s) t h g (suc i) = append-below b s t (λ j. h (suc j)) g i
+append_below b [] t h g i = g i
+append_below b (a ∷ s) t h g zero = h zero
+append_below b (a ∷ s) t h g (suc i) = append_below b s t (λ j. h (suc j)) g i
 
 pub get_d_map : {A B : Type 0} (f : A → B) (l : List A) (i : ℕ) (z : A) (w : B) → i < length l → get_or (map f l) i w ≡ f (get_or l i z)
 get_d_map f [] i z w h = absurd (not-suc-le-zero h)
@@ -104,12 +104,12 @@ length-joined d (suc n) f h =
     ∙ sym (suc-mul n d)
 
 -- More lists joined are no shorter.
-pub length-joined-mono : {A : Type 0} (f : ℕ → List A) (m n : ℕ) → m ≤ n → length (joined m f) ≤ length (joined n f)
+pub length-joined_mono : {A : Type 0} (f : ℕ → List A) (m n : ℕ) → m ≤ n → length (joined m f) ≤ length (joined n f)
 unfolding joined
-length-joined-mono f m zero h =
+length-joined_mono f m zero h =
     let none : m ≡ 0 = omega arith in
     omega (arith, ap (λ k. length (joined k f)) none)
-length-joined-mono f m (suc n) h = go (dec_lt n m) (length-joined-mono f m n)
+length-joined_mono f m (suc n) h = go (dec_lt n m) (length-joined_mono f m n)
   where
     go : Dec (n < m) → (m ≤ n → length (joined m f) ≤ length (joined n f)) → length (joined m f) ≤ length (joined (suc n) f)
     go (yes l) rest =
@@ -133,21 +133,21 @@ same_self i = go (eqb i i) refl (eqb_refl i)
     go true e t = ap (λ c. cond c 1 0) e
     go false e t = absurd t
 
-pub same-other : (i j : ℕ) → i ≢ j → same i j ≡ 0
+pub same_other : (i j : ℕ) → i ≢ j → same i j ≡ 0
 unfolding same
-same-other i j ne = go (eqb i j) refl
+same_other i j ne = go (eqb i j) refl
   where
     go : (b : Bool) → eqb i j ≡ b → same i j ≡ 0
     go true e = absurd (ne (eqb→eq i j (subst (λ c. T c) (sym e) tt)))
     go false e = ap (λ c. cond c 1 0) e
 
 -- `same` as arithmetic that `omega` reads.
-pub same-is : (i j : ℕ) → same i j ≡ 1 - (i - j) - (j - i)
-same-is i j = go (ℕ_discrete i j)
+pub same_is : (i j : ℕ) → same i j ≡ 1 - (i - j) - (j - i)
+same_is i j = go (ℕ_discrete i j)
   where
     go : Dec (i ≡ j) → same i j ≡ 1 - (i - j) - (j - i)
     go (yes e) = rw e (omega (arith, same_self j))
-    go (no ne) = omega (arith, same-other i j ne)
+    go (no ne) = omega (arith, same_other i j ne)
 
 pub count-append : (j : ℕ) (s t : List ℕ) → count j (s ++ t) ≡ count j s + count j t
 unfolding count
@@ -158,7 +158,7 @@ count-append j (i ∷ s) t = omega (arith, count-append j s t)
 pub count_at : (j : ℕ) (S : List ℕ) (k : ℕ) → k < length S → get_or S k 0 ≡ j → 0 < count j S
 unfolding count
 count_at j [] k h e = absurd (not-suc-le-zero h)
-count_at j (i ∷ S) zero h e = omega (arith, same-is i j)
+count_at j (i ∷ S) zero h e = omega (arith, same_is i j)
 count_at j (i ∷ S) (suc k) h e = omega (arith, count_at j S k (le_of_suc-le-suc h) e)
 
 -- What is counted stands at a place.
@@ -171,18 +171,18 @@ place j (i ∷ S) h = go (ℕ_discrete i j) (λ l. place j S l)
         → (k : ℕ) × (k < length (i ∷ S)) × (get_or (i ∷ S) k 0 ≡ j)
     go (yes e) further = (zero, omega arith, e)
     go (no ne) further =
-        let p = further (omega (arith, same-other i j ne)) in
+        let p = further (omega (arith, same_other i j ne)) in
         (suc p.0, omega (arith, p.1), p.2)
 
 -- ---- ones and odds
 
-pub ones-le : (r : List ℕ) → ones r ≤ length r
+pub ones_le : (r : List ℕ) → ones r ≤ length r
 unfolding ones
-ones-le [] = omega arith
-ones-le (zero ∷ r) = omega (arith, ones-le r)
-ones-le (suc b ∷ r) = omega (arith, ones-le r)
+ones_le [] = omega arith
+ones_le (zero ∷ r) = omega (arith, ones_le r)
+ones_le (suc b ∷ r) = omega (arith, ones_le r)
 
-pub odds-le : (u : List ℕ) → odds u ≤ length u
+pub odds_le : (u : List ℕ) → odds u ≤ length u
 unfolding odds
-odds-le [] = omega arith
-odds-le (a ∷ u) = omega (arith, odds-le u)
+odds_le [] = omega arith
+odds_le (a ∷ u) = omega (arith, odds_le u)

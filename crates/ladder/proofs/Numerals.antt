@@ -11,8 +11,8 @@ use native.Mathlib.Omega.{arith}
 use borrow.Author.Tests.{lt-ltb, le-ltb}
 use lib.ListN.{length, get_or, length-append, get_or-append}
 use Rattle.ladder.specs.Lists.{tabulate}
-use Rattle.ladder.specs.Listing.{digitsWithin, digitsOf}
-use Rattle.ladder.proofs.Lists.{length-tabulate, get_d_tabulate, tabulate-same, tabulate-suc, append-below}
+use Rattle.ladder.specs.Listing.{digits_within, digits_of}
+use Rattle.ladder.proofs.Lists.{length-tabulate, get_d_tabulate, tabulate-same, tabulate-suc, append_below}
 
 -- The number that digits stand for in a base, the highest first.
 unfoldable pub value_of : ℕ → List ℕ → ℕ
@@ -20,21 +20,21 @@ value_of base ds = foldl (λ n x. n * base + x) 0 ds
 
 -- ---- one digit at a time
 
-within-small : (k base n : ℕ) → n < base → digitsWithin k base n ≡ n ∷ []
-unfolding digitsWithin
-within-small zero base n h = refl
-within-small (suc k) base n h =
-    ap (λ b. cond b (n ∷ []) (digitsWithin k base (n / base) ++ (n % base ∷ []))) (lt-ltb n base h)
+within_small : (k base n : ℕ) → n < base → digits_within k base n ≡ n ∷ []
+unfolding digits_within
+within_small zero base n h = refl
+within_small (suc k) base n h =
+    ap (λ b. cond b (n ∷ []) (digits_within k base (n / base) ++ (n % base ∷ []))) (lt-ltb n base h)
 
-within_more : (k base n : ℕ) → base ≤ n → digitsWithin (suc k) base n ≡ digitsWithin k base (n / base) ++ (n % base ∷ [])
-unfolding digitsWithin
+within_more : (k base n : ℕ) → base ≤ n → digits_within (suc k) base n ≡ digits_within k base (n / base) ++ (n % base ∷ [])
+unfolding digits_within
 within_more k base n h =
-    ap (λ b. cond b (n ∷ []) (digitsWithin k base (n / base) ++ (n % base ∷ []))) (le-ltb n base h)
+    ap (λ b. cond b (n ∷ []) (digits_within k base (n / base) ++ (n % base ∷ []))) (le-ltb n base h)
 
 -- A number below the base is its one digit.
-pub digits-small : (base n : ℕ) → n < base → digitsOf base n ≡ n ∷ []
-unfolding digitsOf
-digits-small base n h = within-small n base n h
+pub digits_small : (base n : ℕ) → n < base → digits_of base n ≡ n ∷ []
+unfolding digits_of
+digits_small base n h = within_small n base n h
 
 below_one : (b x : ℕ) → x < b → (i : ℕ) → get_or (x ∷ []) i 0 < b
 below_one b x h zero = h
@@ -45,14 +45,14 @@ module _ (base : ℕ) (two : 2 ≤ base) where
   fewer n h = div-lt_self {n = n} {k = base} (omega arith) (omega arith)
 
   -- Two bounds that are not below the number give the same digits.
-  within_same : (k m n : ℕ) → n ≤ k → n ≤ m → digitsWithin k base n ≡ digitsWithin m base n
-  within_same zero m n h g = within-small zero base n (omega arith) ∙ sym (within-small m base n (omega arith))
-  within_same (suc k) zero n h g = within-small (suc k) base n (omega arith) ∙ sym (within-small zero base n (omega arith))
+  within_same : (k m n : ℕ) → n ≤ k → n ≤ m → digits_within k base n ≡ digits_within m base n
+  within_same zero m n h g = within_small zero base n (omega arith) ∙ sym (within_small m base n (omega arith))
+  within_same (suc k) zero n h g = within_small (suc k) base n (omega arith) ∙ sym (within_small zero base n (omega arith))
   within_same (suc k) (suc m) n h g = go (dec_lt n base) (λ l r. within_same k m (n / base) l r)
     where
-      go : Dec (n < base) → (n / base ≤ k → n / base ≤ m → digitsWithin k base (n / base) ≡ digitsWithin m base (n / base))
-          → digitsWithin (suc k) base n ≡ digitsWithin (suc m) base n
-      go (yes l) rest = within-small (suc k) base n l ∙ sym (within-small (suc m) base n l)
+      go : Dec (n < base) → (n / base ≤ k → n / base ≤ m → digits_within k base (n / base) ≡ digits_within m base (n / base))
+          → digits_within (suc k) base n ≡ digits_within (suc m) base n
+      go (yes l) rest = within_small (suc k) base n l ∙ sym (within_small (suc m) base n l)
       go (no l) rest =
           let large : base ≤ n = omega arith in
           within_more k base n large
@@ -60,8 +60,8 @@ module _ (base : ℕ) (two : 2 ≤ base) where
           ∙ sym (within_more m base n large)
 
   -- A larger one is the digits of what it has past its last digit, and the last digit.
-  pub digits_more : (n : ℕ) → base ≤ n → digitsOf base n ≡ digitsOf base (n / base) ++ (n % base ∷ [])
-  unfolding digitsOf
+  pub digits_more : (n : ℕ) → base ≤ n → digits_of base n ≡ digits_of base (n / base) ++ (n % base ∷ [])
+  unfolding digits_of
   digits_more zero h = absurd (omega arith)
   digits_more (suc n) h =
       within_more n base (suc n) h
@@ -83,34 +83,34 @@ module _ (base : ℕ) (two : 2 ≤ base) where
   -- ---- the digits are right
 
   -- The digits of a number stand for it.
-  pub digits_value : (n : ℕ) → value_of base (digitsOf base n) ≡ n
+  pub digits_value : (n : ℕ) → value_of base (digits_of base n) ≡ n
   unfolding value_of
   digits_value =
-      by_digits (λ n. value_of base (digitsOf base n) ≡ n) (λ n h. rw (digits-small base n h) (omega (arith, zero-mul base)))
+      by_digits (λ n. value_of base (digits_of base n) ≡ n) (λ n h. rw (digits_small base n h) (omega (arith, zero-mul base)))
       (λ n h e.
-      ap (value_of base) (digits_more n h) ∙ foldl-append (λ m x. m * base + x) 0 (digitsOf base (n / base)) (n % base ∷ [])
+      ap (value_of base) (digits_more n h) ∙ foldl-append (λ m x. m * base + x) 0 (digits_of base (n / base)) (n % base ∷ [])
       ∙ ap (λ m. m * base + n % base) e ∙ div-add-mod' n base)
 
   -- Each is below the base ..
-  pub digits-below : (n i : ℕ) → get_or (digitsOf base n) i 0 < base
-  digits-below =
-      by_digits (λ n. (i : ℕ) → get_or (digitsOf base n) i 0 < base) (λ n h. rw (digits-small base n h) (below_one base n h))
+  pub digits_below : (n i : ℕ) → get_or (digits_of base n) i 0 < base
+  digits_below =
+      by_digits (λ n. (i : ℕ) → get_or (digits_of base n) i 0 < base) (λ n h. rw (digits_small base n h) (below_one base n h))
       (λ n h e.
       rw (digits_more n h)
-      (append-below base (digitsOf base (n / base)) (n % base ∷ []) e (below_one base (n % base) (mod-lt n {m = base} (omega arith)))))
+      (append_below base (digits_of base (n / base)) (n % base ∷ []) e (below_one base (n % base) (mod-lt n {m = base} (omega arith)))))
 
   -- .. there is one at least ..
-  pub digits-some : (n : ℕ) → 1 ≤ length (digitsOf base n)
-  digits-some =
-      by_digits (λ n. 1 ≤ length (digitsOf base n)) (λ n h. rw (digits-small base n h) (omega arith))
-      (λ n h e. omega (arith, ap length (digits_more n h), length-append (digitsOf base (n / base)) (n % base ∷ [])))
+  pub digits_some : (n : ℕ) → 1 ≤ length (digits_of base n)
+  digits_some =
+      by_digits (λ n. 1 ≤ length (digits_of base n)) (λ n h. rw (digits_small base n h) (omega arith))
+      (λ n h e. omega (arith, ap length (digits_more n h), length-append (digits_of base (n / base)) (n % base ∷ [])))
 
   -- .. and the first is not 0, unless the number is.
-  pub digits-first : (n : ℕ) → 1 ≤ n → 1 ≤ get_or (digitsOf base n) 0 0
-  digits-first =
-      by_digits (λ n. 1 ≤ n → 1 ≤ get_or (digitsOf base n) 0 0) (λ n h s. rw (digits-small base n h) s)
+  pub digits_first : (n : ℕ) → 1 ≤ n → 1 ≤ get_or (digits_of base n) 0 0
+  digits_first =
+      by_digits (λ n. 1 ≤ n → 1 ≤ get_or (digits_of base n) 0 0) (λ n h s. rw (digits_small base n h) s)
       (λ n h e s.
-      rw (digits_more n h, get_or-append (digitsOf base (n / base)) (n % base ∷ []) 0 0 (digits-some (n / base)))
+      rw (digits_more n h, get_or-append (digits_of base (n / base)) (n % base ∷ []) 0 0 (digits_some (n / base)))
       (e ((le-div_iff_mul-le {k = base} {x = 1} {y = n} (omega arith)).1 (omega arith))))
 
   -- ---- where each stands, and how many there are
@@ -131,16 +131,16 @@ module _ (base : ℕ) (two : 2 ≤ base) where
   longer k n h = (le-div_iff_mul-le {k = base} (omega arith)).1 (rw (pow-suc base k) at h)
 
   -- A number of suc k digits, so from base ^ k on if k is not 0: each digit from the number's highest place on.
-  pub digits-at : (k n : ℕ) → n < base ^ suc k → (k ≡ 0) ⊎ (base ^ k ≤ n)
-      → digitsOf base n ≡ tabulate (suc k) (λ i. n / base ^ (k - i) % base)
-  digits-at zero n h w =
+  pub digits_at : (k n : ℕ) → n < base ^ suc k → (k ≡ 0) ⊎ (base ^ k ≤ n)
+      → digits_of base n ≡ tabulate (suc k) (λ i. n / base ^ (k - i) % base)
+  digits_at zero n h w =
       let small : n < base = omega (arith, power-one) in
-      digits-small base n small ∙ unfold tabulate in ap (λ x. x ∷ []) (sym (last-digit n ∙ mod-eq_of_lt small))
-  digits-at (suc k) n h (inl e) = absurd (omega arith)
-  digits-at (suc k) n h (inr low) =
+      digits_small base n small ∙ unfold tabulate in ap (λ x. x ∷ []) (sym (last-digit n ∙ mod-eq_of_lt small))
+  digits_at (suc k) n h (inl e) = absurd (omega arith)
+  digits_at (suc k) n h (inr low) =
       digits_more n large
       ∙ ap₂ (λ ds x. ds ++ (x ∷ []))
-      (digits-at k (n / base) (shorter (suc k) n h) (inr (longer k n low)) ∙ tabulate-same (suc k) _ _ higher)
+      (digits_at k (n / base) (shorter (suc k) n h) (inr (longer k n low)) ∙ tabulate-same (suc k) _ _ higher)
       (sym (ap (λ e. n / base ^ e % base) (sub_self (suc k)) ∙ last-digit n))
       ∙ sym (tabulate-suc (suc k) (λ i. n / base ^ (suc k - i) % base))
     where
@@ -154,43 +154,43 @@ module _ (base : ℕ) (two : 2 ≤ base) where
           (div-div-eq-div-mul n base (base ^ (k - i)) ∙ ap (λ m. n / m) (sym (pow-succ' base (k - i)) ∙ ap (λ e. base ^ e) (sym place)))
 
   -- So there are suc k of them.
-  pub digits-count : (k n : ℕ) → n < base ^ suc k → (k ≡ 0) ⊎ (base ^ k ≤ n) → length (digitsOf base n) ≡ suc k
-  digits-count k n h w = ap length (digits-at k n h w) ∙ length-tabulate (suc k) _
+  pub digits_count : (k n : ℕ) → n < base ^ suc k → (k ≡ 0) ⊎ (base ^ k ≤ n) → length (digits_of base n) ≡ suc k
+  digits_count k n h w = ap length (digits_at k n h w) ∙ length-tabulate (suc k) _
 
-  one_more : (n : ℕ) → base ≤ n → length (digitsOf base n) ≡ suc (length (digitsOf base (n / base)))
-  one_more n h = omega (arith, ap length (digits_more n h), length-append (digitsOf base (n / base)) (n % base ∷ []))
+  one_more : (n : ℕ) → base ≤ n → length (digits_of base n) ≡ suc (length (digits_of base (n / base)))
+  one_more n h = omega (arith, ap length (digits_more n h), length-append (digits_of base (n / base)) (n % base ∷ []))
 
   -- A number is below the power of the base for all its digits ..
-  pub digits-power : (n : ℕ) → n < base ^ length (digitsOf base n)
-  digits-power =
-      by_digits (λ n. n < base ^ length (digitsOf base n))
-      (λ n h. rw (digits-small base n h) (rw power-one h))
+  pub digits_power : (n : ℕ) → n < base ^ length (digits_of base n)
+  digits_power =
+      by_digits (λ n. n < base ^ length (digits_of base n))
+      (λ n h. rw (digits_small base n h) (rw power-one h))
       (λ n h e.
-      rw (one_more n h, pow-suc base (length (digitsOf base (n / base))))
-      ((div-lt_iff_lt-mul {k = base} {x = n} {y = base ^ length (digitsOf base (n / base))} (omega arith)).0 e))
+      rw (one_more n h, pow-suc base (length (digits_of base (n / base))))
+      ((div-lt_iff_lt-mul {k = base} {x = n} {y = base ^ length (digits_of base (n / base))} (omega arith)).0 e))
 
   -- .. and below a power it has no more digits than that has places.
-  pub digits-length : (k n : ℕ) → n < base ^ suc k → length (digitsOf base n) ≤ suc k
-  digits-length zero n h = omega (arith, ap length (digits-small base n (omega (arith, power-one))))
-  digits-length (suc k) n h = go (dec_lt n base) (digits-length k (n / base) (shorter (suc k) n h))
+  pub digits_length : (k n : ℕ) → n < base ^ suc k → length (digits_of base n) ≤ suc k
+  digits_length zero n h = omega (arith, ap length (digits_small base n (omega (arith, power-one))))
+  digits_length (suc k) n h = go (dec_lt n base) (digits_length k (n / base) (shorter (suc k) n h))
     where
-      go : Dec (n < base) → length (digitsOf base (n / base)) ≤ suc k → length (digitsOf base n) ≤ suc (suc k)
-      go (yes l) rest = omega (arith, ap length (digits-small base n l))
+      go : Dec (n < base) → length (digits_of base (n / base)) ≤ suc k → length (digits_of base n) ≤ suc (suc k)
+      go (yes l) rest = omega (arith, ap length (digits_small base n l))
       go (no l) rest = omega (arith, one_more n (omega arith))
 
-  fewest : (k n : ℕ) → length (digitsOf base n) ≡ suc k → (k ≡ 0) ⊎ (base ^ k ≤ n)
+  fewest : (k n : ℕ) → length (digits_of base n) ≡ suc k → (k ≡ 0) ⊎ (base ^ k ≤ n)
   fewest zero n e = inl refl
   fewest (suc k) n e = inr (go (dec_lt n (base ^ suc k)))
     where
       go : Dec (n < base ^ suc k) → base ^ suc k ≤ n
-      go (yes l) = absurd (omega (arith, digits-length k n l))
+      go (yes l) = absurd (omega (arith, digits_length k n l))
       go (no l) = omega arith
 
   -- Digit i, from the highest, of all that there are.
-  pub digits-nth : (n i : ℕ) → i < length (digitsOf base n)
-      → get_or (digitsOf base n) i 0 ≡ n / base ^ (length (digitsOf base n) - 1 - i) % base
-  digits-nth n i h =
-      let k = length (digitsOf base n) - 1 in
-      let last : suc k ≡ length (digitsOf base n) = omega (arith, digits-some n) in
-      ap (λ ds. get_or ds i 0) (digits-at k n (rw last (digits-power n)) (fewest k n (sym last)))
+  pub digits_nth : (n i : ℕ) → i < length (digits_of base n)
+      → get_or (digits_of base n) i 0 ≡ n / base ^ (length (digits_of base n) - 1 - i) % base
+  digits_nth n i h =
+      let k = length (digits_of base n) - 1 in
+      let last : suc k ≡ length (digits_of base n) = omega (arith, digits_some n) in
+      ap (λ ds. get_or ds i 0) (digits_at k n (rw last (digits_power n)) (fewest k n (sym last)))
       ∙ get_d_tabulate (suc k) (λ j. n / base ^ (k - j) % base) i 0 (omega arith)

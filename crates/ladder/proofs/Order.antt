@@ -10,20 +10,20 @@ use native.Mathlib.Omega.{arith}
 use lib.ListN.{length, get_or, take, drop, length-append, length-drop, length-reverse, take-append-drop}
 use lib.Seq.{get_or_at, take-suc, drop-cons, get_or-drop, append_snoc, take_all}
 use Rattle.ladder.specs.Lists.{tabulate, same, count, ones}
-use Rattle.ladder.specs.Matrix.{Arrangement, orderFrom, stepOrder}
+use Rattle.ladder.specs.Matrix.{Arrangement, order_from, step_order}
 use Rattle.ladder.specs.Encoding.{picked, passed, rearrange}
-use Rattle.ladder.proofs.Lists.{length-tabulate, get_d_tabulate, same_self, same-is, count-append, count_at, place, ones-le}
-use Rattle.ladder.proofs.Step.{length-stepOrder}
+use Rattle.ladder.proofs.Lists.{length-tabulate, get_d_tabulate, same_self, same_is, count-append, count_at, place, ones_le}
+use Rattle.ladder.proofs.Step.{length-step_order}
 
 -- ---- places of an arrangement
 
 -- A column that stands at two places is counted twice.
-count-two : (S : List ℕ) (k m : ℕ) → k < m → m < length S → get_or S k 0 ≡ get_or S m 0 → 1 < count (get_or S k 0) S
+count_two : (S : List ℕ) (k m : ℕ) → k < m → m < length S → get_or S k 0 ≡ get_or S m 0 → 1 < count (get_or S k 0) S
 unfolding count
-count-two [] k m h l e = absurd (not-suc-le-zero l)
-count-two (i ∷ S) k zero h l e = absurd (not-suc-le-zero h)
-count-two (i ∷ S) zero (suc m) h l e = omega (arith, same_self i, count_at i S m (le_of_suc-le-suc l) (sym e))
-count-two (i ∷ S) (suc k) (suc m) h l e = omega (arith, count-two S k m (le_of_suc-le-suc h) (le_of_suc-le-suc l) e)
+count_two [] k m h l e = absurd (not-suc-le-zero l)
+count_two (i ∷ S) k zero h l e = absurd (not-suc-le-zero h)
+count_two (i ∷ S) zero (suc m) h l e = omega (arith, same_self i, count_at i S m (le_of_suc-le-suc l) (sym e))
+count_two (i ∷ S) (suc k) (suc m) h l e = omega (arith, count_two S k m (le_of_suc-le-suc h) (le_of_suc-le-suc l) e)
 
 module _ {d : ℕ} {S : List ℕ} (a : Arrangement d S) where
   -- Every column has a place ..
@@ -33,12 +33,12 @@ module _ {d : ℕ} {S : List ℕ} (a : Arrangement d S) where
       (p.0, omega (arith, p.1, a.long), p.2)
 
   -- .. and only one.
-  pub place-once : (k m : ℕ) → k < d → m < d → get_or S k 0 ≡ get_or S m 0 → k ≡ m
-  place-once k m h l e = go (dec_le k m) (dec_le m k)
+  pub place_once : (k m : ℕ) → k < d → m < d → get_or S k 0 ≡ get_or S m 0 → k ≡ m
+  place_once k m h l e = go (dec_le k m) (dec_le m k)
     where
       apart : (i n : ℕ) → i < n → n < d → get_or S i 0 ≡ get_or S n 0 → ⊥
       apart i n lt b q =
-          omega (arith, count-two S i n lt (omega (arith, a.long)) q, a.once (get_or S i 0) (a.inside i (omega arith)))
+          omega (arith, count_two S i n lt (omega (arith, a.long)) q, a.once (get_or S i 0) (a.inside i (omega arith)))
 
       go : Dec (k ≤ m) → Dec (m ≤ k) → k ≡ m
       go (yes p) (yes q) = omega arith
@@ -46,8 +46,8 @@ module _ {d : ℕ} {S : List ℕ} (a : Arrangement d S) where
       go (no p) q = absurd (apart m k (omega arith) h (sym e))
 
   -- A list with the same counts and the same length is an arrangement too.
-  pub arrangement-by-counts : (S' : List ℕ) → length S' ≡ d → ((j : ℕ) → count j S' ≡ count j S) → Arrangement d S'
-  arrangement-by-counts S' e c = record {
+  pub arrangement_by_counts : (S' : List ℕ) → length S' ≡ d → ((j : ℕ) → count j S' ≡ count j S) → Arrangement d S'
+  arrangement_by_counts S' e c = record {
     long = e;
     inside = λ k h. go k h;
     once = λ j h. c j ∙ a.once j h;
@@ -60,24 +60,24 @@ module _ {d : ℕ} {S : List ℕ} (a : Arrangement d S) where
           omega (arith, p.2, a.inside p.0 (omega (arith, p.1, a.long)))
 
 -- The columns in number order.
-count-rising : (n a j : ℕ) (f : ℕ → ℕ) → ((k : ℕ) → f k ≡ a + k)
+count_rising : (n a j : ℕ) (f : ℕ → ℕ) → ((k : ℕ) → f k ≡ a + k)
     → (j < a → count j (tabulate n f) ≡ 0) × (a ≤ j → j < a + n → count j (tabulate n f) ≡ 1)
 unfolding count tabulate
-count-rising zero a j f e = (λ h. refl, λ h l. absurd (omega arith))
-count-rising (suc n) a j f e =
-    let more = count-rising n (suc a) j (λ k. f (suc k)) (λ k. e (suc k) ∙ omega arith) in
-    (λ h. omega (arith, same-is (f zero) j, e zero, more.0 (omega arith)), λ h l. go more (ℕ_discrete j a) h l)
+count_rising zero a j f e = (λ h. refl, λ h l. absurd (omega arith))
+count_rising (suc n) a j f e =
+    let more = count_rising n (suc a) j (λ k. f (suc k)) (λ k. e (suc k) ∙ omega arith) in
+    (λ h. omega (arith, same_is (f zero) j, e zero, more.0 (omega arith)), λ h l. go more (ℕ_discrete j a) h l)
   where
     go : (j < suc a → count j (tabulate n (λ k. f (suc k))) ≡ 0) × (suc a ≤ j → j < suc a + n → count j (tabulate n (λ k. f (suc k))) ≡ 1)
         → Dec (j ≡ a) → a ≤ j → j < a + suc n → same (f zero) j + count j (tabulate n (λ k. f (suc k))) ≡ 1
-    go more (yes q) h l = omega (arith, same-is (f zero) j, e zero, more.0 (omega arith))
-    go more (no q) h l = omega (arith, same-is (f zero) j, e zero, more.1 (omega arith) (omega arith))
+    go more (yes q) h l = omega (arith, same_is (f zero) j, e zero, more.0 (omega arith))
+    go more (no q) h l = omega (arith, same_is (f zero) j, e zero, more.1 (omega arith) (omega arith))
 
-pub rising-arrangement : (d : ℕ) → Arrangement d (tabulate d (λ j. j))
-rising-arrangement d = record {
+pub rising_arrangement : (d : ℕ) → Arrangement d (tabulate d (λ j. j))
+rising_arrangement d = record {
   long = length-tabulate d (λ j. j);
   inside = λ k h. omega (arith, get_d_tabulate d (λ j. j) k 0 h);
-  once = λ j h. (count-rising d 0 j (λ k. k) (λ k. omega arith)).1 (omega arith) (omega arith);
+  once = λ j h. (count_rising d 0 j (λ k. k) (λ k. omega arith)).1 (omega arith) (omega arith);
 }
 
 -- ---- picking and passing
@@ -109,8 +109,8 @@ length-passed (i ∷ S) (suc b ∷ r) e = omega (arith, length-passed S r (omega
 
 -- T is what is left of both ends with W between them: x stands at the end of the columns to be picked, y after W.
 forth : (S r W T : List ℕ) (x y : ℕ) → length S ≡ length r → T ≡ reverse (picked S r) ++ (W ++ passed S r)
-    → x ≡ length (picked S r) → y ≡ length (picked S r) + length W → orderFrom T x y r ≡ S
-unfolding orderFrom picked passed
+    → x ≡ length (picked S r) → y ≡ length (picked S r) + length W → order_from T x y r ≡ S
+unfolding order_from picked passed
 forth [] [] W T x y e t p q = refl
 forth [] (b ∷ r) W T x y e t p q = absurd (omega arith)
 forth (j ∷ S) [] W T x y e t p q = absurd (omega arith)
@@ -133,24 +133,24 @@ forth (j ∷ S) (suc b ∷ r) W T x y e t p q =
         t ∙ ap (λ U. U ++ (W ++ passed S r)) (reverse-cons j (picked S r))
         ∙ append_snoc (reverse (picked S r)) j (W ++ passed S r)
 
-pub stepOrder-rearrange : (S r : List ℕ) → length S ≡ length r → stepOrder (rearrange S r) r ≡ S
-unfolding stepOrder rearrange
-stepOrder-rearrange S r e =
+pub step_order-rearrange : (S r : List ℕ) → length S ≡ length r → step_order (rearrange S r) r ≡ S
+unfolding step_order rearrange
+step_order-rearrange S r e =
     forth S r [] (reverse (picked S r) ++ passed S r) (ones r) (ones r) e refl (sym (length-picked S r e))
     (omega (arith, length-picked S r e))
 
 -- ---- the rearranging keeps arrangements
 
-count-reverseAux : (j : ℕ) (s t : List ℕ) → count j (reverse_aux s t) ≡ count j s + count j t
+count-reverse_aux : (j : ℕ) (s t : List ℕ) → count j (reverse_aux s t) ≡ count j s + count j t
 unfolding count
-count-reverseAux j [] t = omega arith
-count-reverseAux j (i ∷ s) t = omega (arith, count-reverseAux j s (i ∷ t))
+count-reverse_aux j [] t = omega arith
+count-reverse_aux j (i ∷ s) t = omega (arith, count-reverse_aux j s (i ∷ t))
 
 -- The rearranging keeps every column's count ..
 pub count-rearrange : (j : ℕ) (S r : List ℕ) → length S ≡ length r → count j (rearrange S r) ≡ count j S
 unfolding rearrange count
 count-rearrange j S r e =
-    omega (arith, count-append j (reverse (picked S r)) (passed S r), count-reverseAux j (picked S r) [], count-picked j S r e)
+    omega (arith, count-append j (reverse (picked S r)) (passed S r), count-reverse_aux j (picked S r) [], count-picked j S r e)
 
 pub length-rearrange : (S r : List ℕ) → length S ≡ length r → length (rearrange S r) ≡ length r
 unfolding rearrange
@@ -158,50 +158,50 @@ length-rearrange S r e =
     omega (arith, length-append (reverse (picked S r)) (passed S r), length-reverse (picked S r), length-picked S r e, length-passed S r e)
 
 -- .. so it keeps arrangements.
-pub arrangement-rearrange : {d : ℕ} {S : List ℕ} → Arrangement d S → (r : List ℕ) → length r ≡ d → Arrangement d (rearrange S r)
-arrangement-rearrange {d} {S} a r e =
-    arrangement-by-counts a (rearrange S r) (length-rearrange S r (a.long ∙ sym e) ∙ e)
+pub arrangement_rearrange : {d : ℕ} {S : List ℕ} → Arrangement d S → (r : List ℕ) → length r ≡ d → Arrangement d (rearrange S r)
+arrangement_rearrange {d} {S} a r e =
+    arrangement_by_counts a (rearrange S r) (length-rearrange S r (a.long ∙ sym e) ∙ e)
     (λ j. count-rearrange j S r (a.long ∙ sym e))
 
 -- ---- the rearranging undoes the step
 
 picked-order : (T : List ℕ) (x y : ℕ) (r : List ℕ) → ones r ≤ x → x ≤ length T
-    → reverse (picked (orderFrom T x y r) r) ≡ take (ones r) (drop (x - ones r) T)
-unfolding orderFrom picked ones
+    → reverse (picked (order_from T x y r) r) ≡ take (ones r) (drop (x - ones r) T)
+unfolding order_from picked ones
 picked-order T x y [] h l = refl
 picked-order T x y (zero ∷ r) h l = picked-order T x (suc y) r h l
 picked-order T x y (suc b ∷ r) h l =
     let from : pred x - ones r ≡ x - suc (ones r) = omega arith in
     let last : pred x ≡ x - suc (ones r) + ones r = omega arith in
-    reverse-cons (get_or T (pred x) 0) (picked (orderFrom T (pred x) y r) r)
+    reverse-cons (get_or T (pred x) 0) (picked (order_from T (pred x) y r) r)
     ∙ ap₂ (λ U a. U ++ (a ∷ []))
     (picked-order T (pred x) y r (omega arith) (omega arith) ∙ ap (λ m. take (ones r) (drop m T)) from)
     (ap (λ m. get_or T m 0) last ∙ sym (get_or-drop (x - suc (ones r)) T (ones r) 0))
     ∙ sym (take-suc (drop (x - suc (ones r)) T) (ones r) 0 (omega (arith, length-drop (x - suc (ones r)) T)))
 
 passed-order : (T : List ℕ) (x y : ℕ) (r : List ℕ) → y + (length r - ones r) ≤ length T
-    → passed (orderFrom T x y r) r ≡ take (length r - ones r) (drop y T)
-unfolding orderFrom passed ones
+    → passed (order_from T x y r) r ≡ take (length r - ones r) (drop y T)
+unfolding order_from passed ones
 passed-order T x y [] h = refl
 passed-order T x y (zero ∷ r) h =
-    let left : suc (length r) - ones r ≡ suc (length r - ones r) = omega (arith, ones-le r) in
-    ap (λ rest. get_or T y 0 ∷ rest) (passed-order T x (suc y) r (omega (arith, ones-le r)))
-    ∙ sym (ap₂ (λ n U. take n U) left (drop-cons T y 0 (omega (arith, ones-le r))))
+    let left : suc (length r) - ones r ≡ suc (length r - ones r) = omega (arith, ones_le r) in
+    ap (λ rest. get_or T y 0 ∷ rest) (passed-order T x (suc y) r (omega (arith, ones_le r)))
+    ∙ sym (ap₂ (λ n U. take n U) left (drop-cons T y 0 (omega (arith, ones_le r))))
 passed-order T x y (suc b ∷ r) h =
     passed-order T (pred x) y r (omega arith) ∙ ap (λ n. take n (drop y T)) (sym (suc-sub-suc (length r) (ones r)))
 
-pub rearrange-stepOrder : (S r : List ℕ) → length S ≡ length r → rearrange (stepOrder S r) r ≡ S
-unfolding stepOrder rearrange
-rearrange-stepOrder S r e =
+pub rearrange-step_order : (S r : List ℕ) → length S ≡ length r → rearrange (step_order S r) r ≡ S
+unfolding step_order rearrange
+rearrange-step_order S r e =
     ap₂ (λ U W. U ++ W)
-    (picked-order S (ones r) (ones r) r (omega arith) (omega (arith, ones-le r)) ∙ ap (λ m. take (ones r) (drop m S)) (sub_self (ones r)))
-    (passed-order S (ones r) (ones r) r (omega (arith, ones-le r))
+    (picked-order S (ones r) (ones r) r (omega arith) (omega (arith, ones_le r)) ∙ ap (λ m. take (ones r) (drop m S)) (sub_self (ones r)))
+    (passed-order S (ones r) (ones r) r (omega (arith, ones_le r))
     ∙ take_all (length r - ones r) (drop (ones r) S) (omega (arith, length-drop (ones r) S)))
     ∙ take-append-drop (ones r) S
 
 -- A step keeps every column's count, and so keeps arrangements.
-pub arrangement-step : {d : ℕ} {S : List ℕ} → Arrangement d S → (r : List ℕ) → length r ≡ d → Arrangement d (stepOrder S r)
-arrangement-step {d} {S} a r e =
-    arrangement-by-counts a (stepOrder S r) (length-stepOrder S r ∙ e)
-    (λ j. sym (count-rearrange j (stepOrder S r) r (length-stepOrder S r))
-    ∙ ap (λ U. count j U) (rearrange-stepOrder S r (a.long ∙ sym e)))
+pub arrangement_step : {d : ℕ} {S : List ℕ} → Arrangement d S → (r : List ℕ) → length r ≡ d → Arrangement d (step_order S r)
+arrangement_step {d} {S} a r e =
+    arrangement_by_counts a (step_order S r) (length-step_order S r ∙ e)
+    (λ j. sym (count-rearrange j (step_order S r) r (length-step_order S r))
+    ∙ ap (λ U. count j U) (rearrange-step_order S r (a.long ∙ sym e)))

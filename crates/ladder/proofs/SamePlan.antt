@@ -8,12 +8,12 @@ use native.Mathlib.Omega.{arith}
 use lib.Arith.{digits_lt}
 use Rattle.ladder.specs.Lists.{tabulate, joined}
 use Rattle.ladder.specs.Numbers.{bit_at, bits_at}
-use Rattle.ladder.specs.Matrix.{row, matrixAfter, orderAfter, signsAfter}
-use Rattle.ladder.specs.Plan.{Plan, startOrder, stepBits, matrixIn, order_in, signsIn, lastMatrix, endOrder, answerRow}
-use Rattle.ladder.specs.Trace.{block, blockIn, entriesIn}
-use Rattle.ladder.specs.Registers.{Rule, stepRegisters, registersAfter, plainRule, differenceRule, startRegisters, plainRegisters, differenceRegisters}
+use Rattle.ladder.specs.Matrix.{row, matrix_after, order_after, signs_after}
+use Rattle.ladder.specs.Plan.{Plan, start_order, step_bits, matrix_in, order_in, signs_in, last_matrix, end_order, answer_row}
+use Rattle.ladder.specs.Trace.{block, block_in, entries_in}
+use Rattle.ladder.specs.Registers.{Rule, step_registers, registers_after, plain_rule, difference_rule, start_registers, plain_registers, difference_registers}
 use Rattle.ladder.proofs.Lists.{tabulate-same, joined_same}
-use Rattle.ladder.proofs.Ladder.{matrix-same, order_same, signs-same}
+use Rattle.ladder.proofs.Ladder.{matrix_same, order_same, signs_same}
 
 -- The same plan: all that a plan says, and no filling bit.
 pub record SamePlan (p q : Plan) : Type 0 where
@@ -24,75 +24,75 @@ pub record SamePlan (p q : Plan) : Type 0 where
   pub answer : p.answer ≡ q.answer
 
 -- Only the bits of the steps taken count for registers too.
-registers-same : {A : Type 0} (rule : Rule A) (d : ℕ) (S : List ℕ) (r q : ℕ → List ℕ) (regs : List A) (n : ℕ)
-    → ((s : ℕ) → s < n → r s ≡ q s) → registersAfter rule d S r regs n ≡ registersAfter rule d S q regs n
-unfolding registersAfter
-registers-same rule d S r q regs zero e = refl
-registers-same rule d S r q regs (suc n) e =
+registers_same : {A : Type 0} (rule : Rule A) (d : ℕ) (S : List ℕ) (r q : ℕ → List ℕ) (regs : List A) (n : ℕ)
+    → ((s : ℕ) → s < n → r s ≡ q s) → registers_after rule d S r regs n ≡ registers_after rule d S q regs n
+unfolding registers_after
+registers_same rule d S r q regs zero e = refl
+registers_same rule d S r q regs (suc n) e =
     let before : (s : ℕ) → s < n → r s ≡ q s = λ s h. e s (omega arith) in
     ap₂ (λ f b. f b)
-    (ap₂ (λ B g. stepRegisters rule d B g) (matrix-same d S r q n before) (registers-same rule d S r q regs n before))
+    (ap₂ (λ B g. step_registers rule d B g) (matrix_same d S r q n before) (registers_same rule d S r q regs n before))
     (e n (omega arith))
 
 module _ (p q : Plan) (e : SamePlan p q) where
-  pub same_start : startOrder p ≡ startOrder q
-  unfolding startOrder
+  pub same_start : start_order p ≡ start_order q
+  unfolding start_order
   same_start = ap (map pred) e.start
 
-  pub same_bits : (s : ℕ) → s < p.l → stepBits p s ≡ stepBits q s
+  pub same_bits : (s : ℕ) → s < p.l → step_bits p s ≡ step_bits q s
   unfolding bits_at
   same_bits s h =
       tabulate-same p.d (λ k. bit_at p.bits (s * p.d + k)) (λ k. bit_at q.bits (s * p.d + k))
       (λ k l. e.bits (s * p.d + k) (digits_lt h l))
       ∙ ap (λ d. tabulate d (λ k. bit_at q.bits (s * d + k))) e.d
 
-  before : (n : ℕ) → n ≤ p.l → (s : ℕ) → s < n → stepBits p s ≡ stepBits q s
+  before : (n : ℕ) → n ≤ p.l → (s : ℕ) → s < n → step_bits p s ≡ step_bits q s
   before n h s b = same_bits s (omega arith)
 
-  pub same-matrix : (n : ℕ) → n ≤ p.l → matrixIn p n ≡ matrixIn q n
-  unfolding matrixIn
-  same-matrix n h =
-      ap₂ (λ d S. matrixAfter d S (stepBits p) n) e.d same_start
-      ∙ matrix-same q.d (startOrder q) (stepBits p) (stepBits q) n (before n h)
+  pub same_matrix : (n : ℕ) → n ≤ p.l → matrix_in p n ≡ matrix_in q n
+  unfolding matrix_in
+  same_matrix n h =
+      ap₂ (λ d S. matrix_after d S (step_bits p) n) e.d same_start
+      ∙ matrix_same q.d (start_order q) (step_bits p) (step_bits q) n (before n h)
 
   pub same-order : (n : ℕ) → n ≤ p.l → order_in p n ≡ order_in q n
   unfolding order_in
   same-order n h =
-      ap (λ S. orderAfter S (stepBits p) n) same_start ∙ order_same (startOrder q) (stepBits p) (stepBits q) n (before n h)
+      ap (λ S. order_after S (step_bits p) n) same_start ∙ order_same (start_order q) (step_bits p) (step_bits q) n (before n h)
 
-  pub same-signs : (n : ℕ) → n ≤ p.l → signsIn p n ≡ signsIn q n
-  unfolding signsIn
-  same-signs n h =
-      ap₂ (λ d S. signsAfter d S (stepBits p) n) e.d same_start
-      ∙ signs-same q.d (startOrder q) (stepBits p) (stepBits q) n (before n h)
+  pub same_signs : (n : ℕ) → n ≤ p.l → signs_in p n ≡ signs_in q n
+  unfolding signs_in
+  same_signs n h =
+      ap₂ (λ d S. signs_after d S (step_bits p) n) e.d same_start
+      ∙ signs_same q.d (start_order q) (step_bits p) (step_bits q) n (before n h)
 
-  pub same_answer : answerRow p ≡ answerRow q
-  unfolding answerRow lastMatrix
+  pub same_answer : answer_row p ≡ answer_row q
+  unfolding answer_row last_matrix
   same_answer =
-      ap₂ (λ B n. row B (pred n)) (same-matrix p.l (omega arith) ∙ ap (matrixIn q) e.l) e.answer
+      ap₂ (λ B n. row B (pred n)) (same_matrix p.l (omega arith) ∙ ap (matrix_in q) e.l) e.answer
 
-  pub same-end-order : endOrder p ≡ endOrder q
-  unfolding endOrder
-  same-end-order = same-order p.l (omega arith) ∙ ap (order_in q) e.l
+  pub same_end_order : end_order p ≡ end_order q
+  unfolding end_order
+  same_end_order = same-order p.l (omega arith) ∙ ap (order_in q) e.l
 
-  pub same-trace : entriesIn p ≡ entriesIn q
-  unfolding entriesIn blockIn
-  same-trace =
-      joined_same p.l (blockIn p) (blockIn q)
-      (λ s h. ap₂ (λ f r. f r) (ap₂ block e.d (same-matrix s (omega arith))) (same_bits s h))
-      ∙ ap (λ l. joined l (blockIn q)) e.l
+  pub same_trace : entries_in p ≡ entries_in q
+  unfolding entries_in block_in
+  same_trace =
+      joined_same p.l (block_in p) (block_in q)
+      (λ s h. ap₂ (λ f r. f r) (ap₂ block e.d (same_matrix s (omega arith))) (same_bits s h))
+      ∙ ap (λ l. joined l (block_in q)) e.l
 
-  same-registers : {A : Type 0} (rule : Rule A) (regs : List ℕ → List A) (n : ℕ) → n ≤ p.l
-      → registersAfter rule p.d (startOrder p) (stepBits p) (regs (startOrder p)) n
-      ≡ registersAfter rule q.d (startOrder q) (stepBits q) (regs (startOrder q)) n
-  same-registers rule regs n h =
-      ap₂ (λ d S. registersAfter rule d S (stepBits p) (regs S) n) e.d same_start
-      ∙ registers-same rule q.d (startOrder q) (stepBits p) (stepBits q) (regs (startOrder q)) n (before n h)
+  same_registers : {A : Type 0} (rule : Rule A) (regs : List ℕ → List A) (n : ℕ) → n ≤ p.l
+      → registers_after rule p.d (start_order p) (step_bits p) (regs (start_order p)) n
+      ≡ registers_after rule q.d (start_order q) (step_bits q) (regs (start_order q)) n
+  same_registers rule regs n h =
+      ap₂ (λ d S. registers_after rule d S (step_bits p) (regs S) n) e.d same_start
+      ∙ registers_same rule q.d (start_order q) (step_bits p) (step_bits q) (regs (start_order q)) n (before n h)
 
-  pub same-plain : (m : ℕ) (es : List ℕ) (n : ℕ) → n ≤ p.l → plainRegisters p m es n ≡ plainRegisters q m es n
-  unfolding plainRegisters
-  same-plain m es n h = same-registers (plainRule m) (startRegisters m es) n h
+  pub same_plain : (m : ℕ) (es : List ℕ) (n : ℕ) → n ≤ p.l → plain_registers p m es n ≡ plain_registers q m es n
+  unfolding plain_registers
+  same_plain m es n h = same_registers (plain_rule m) (start_registers m es) n h
 
-  pub same-difference : (m : ℕ) (es : List ℕ) (n : ℕ) → n ≤ p.l → differenceRegisters p m es n ≡ differenceRegisters q m es n
-  unfolding differenceRegisters
-  same-difference m es n h = same-registers (differenceRule m es) (startRegisters m es) n h
+  pub same-difference : (m : ℕ) (es : List ℕ) (n : ℕ) → n ≤ p.l → difference_registers p m es n ≡ difference_registers q m es n
+  unfolding difference_registers
+  same-difference m es n h = same_registers (difference_rule m es) (start_registers m es) n h

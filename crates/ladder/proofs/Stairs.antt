@@ -11,10 +11,10 @@ use native.Mathlib.Omega.{arith}
 use lib.ListN.{length, get_or, get_or-eq_default}
 use lib.Seq.{ext_get_or}
 use Rattle.ladder.specs.Lists.{odds}
-use Rattle.ladder.specs.Matrix.{Row, Matrix, row, entry, Arrangement, StateMatrix, step, stepOrder}
-use Rattle.ladder.proofs.Lists.{ones-le}
-use Rattle.ladder.proofs.Step.{onesTo-le, onesTo-between, onesTo-all, onesTo-one, onesTo-zero, rowX, rowY, rowX-inside, rowY-inside, length-step, entry-step, wide_step, stepOrder-one, stepOrder-zero}
-use Rattle.ladder.proofs.Order.{place_of, place-once, arrangement-step}
+use Rattle.ladder.specs.Matrix.{Row, Matrix, row, entry, Arrangement, StateMatrix, step, step_order}
+use Rattle.ladder.proofs.Lists.{ones_le}
+use Rattle.ladder.proofs.Step.{ones_to_le, ones_to_between, ones_to_all, ones_to_one, ones_to_zero, row_x, row_y, row_x_inside, row_y_inside, length-step, entry-step, wide_step, step_order_one, step_order_zero}
+use Rattle.ladder.proofs.Order.{place_of, place_once, arrangement_step}
 
 -- ---- columns as stairs
 
@@ -34,32 +34,32 @@ pub record Stairs (d : ℕ) (B : Matrix) (S : List ℕ) : Type 0 where
 
 -- ---- odd entries
 
-odds-none : (u : Row) → odds u ≡ 0 → (j : ℕ) → get_or u j 0 % 2 ≡ 0
+odds_none : (u : Row) → odds u ≡ 0 → (j : ℕ) → get_or u j 0 % 2 ≡ 0
 unfolding odds
-odds-none [] h j = refl
-odds-none (a ∷ u) h zero = omega arith
-odds-none (a ∷ u) h (suc j) = odds-none u (omega arith) j
+odds_none [] h j = refl
+odds_none (a ∷ u) h zero = omega arith
+odds_none (a ∷ u) h (suc j) = odds_none u (omega arith) j
 
-none-odds : (u : Row) → ((j : ℕ) → get_or u j 0 % 2 ≡ 0) → odds u ≡ 0
+none_odds : (u : Row) → ((j : ℕ) → get_or u j 0 % 2 ≡ 0) → odds u ≡ 0
 unfolding odds
-none-odds [] h = refl
-none-odds (a ∷ u) h = omega (arith, h zero, none-odds u (λ j. h (suc j)))
+none_odds [] h = refl
+none_odds (a ∷ u) h = omega (arith, h zero, none_odds u (λ j. h (suc j)))
 
 -- Where one even entry becomes odd and the others stay, there is one odd entry more.
-odds-more : (u v : Row) (j : ℕ) → length u ≡ length v → j < length u → ((i : ℕ) → i ≢ j → get_or u i 0 ≡ get_or v i 0)
+odds_more : (u v : Row) (j : ℕ) → length u ≡ length v → j < length u → ((i : ℕ) → i ≢ j → get_or u i 0 ≡ get_or v i 0)
     → get_or u j 0 % 2 ≡ 0 → get_or v j 0 % 2 ≡ 1 → odds v ≡ suc (odds u)
 unfolding odds
-odds-more [] v j e h s p q = absurd (not-suc-le-zero h)
-odds-more (a ∷ u) [] j e h s p q = absurd (omega arith)
-odds-more (a ∷ u) (b ∷ v) zero e h s p q =
+odds_more [] v j e h s p q = absurd (not-suc-le-zero h)
+odds_more (a ∷ u) [] j e h s p q = absurd (omega arith)
+odds_more (a ∷ u) (b ∷ v) zero e h s p q =
     let t : u ≡ v = ext_get_or 0 u v (omega arith) (λ i l. s (suc i) (omega arith)) in
     omega (arith, ap odds t)
-odds-more (a ∷ u) (b ∷ v) (suc j) e h s p q =
+odds_more (a ∷ u) (b ∷ v) (suc j) e h s p q =
     omega (
       arith,
       s zero (omega arith),
       ap (λ n. n % 2) (s zero (omega arith)),
-      odds-more u v j (omega arith) (le_of_suc-le-suc h) (λ i n. s (suc i) (λ g. n (omega arith))) p q,
+      odds_more u v j (omega arith) (le_of_suc-le-suc h) (λ i n. s (suc i) (λ g. n (omega arith))) p q,
     )
 
 -- ---- from a state matrix to its columns
@@ -67,7 +67,7 @@ odds-more (a ∷ u) (b ∷ v) (suc j) e h s p q =
 module _ {d : ℕ} {B : Matrix} {S : List ℕ} (M : StateMatrix d B S) where
   -- From row i to the next, a column at another place stays.
   stays : (k i : ℕ) → k < d → i < d → i ≢ k → entry B i (get_or S k 0) ≡ entry B (suc i) (get_or S k 0)
-  stays k i h l n = (M.next i l).elsewhere (get_or S k 0) (λ e. n (place-once M.order i k l h (sym e)))
+  stays k i h l n = (M.next i l).elsewhere (get_or S k 0) (λ e. n (place_once M.order i k l h (sym e)))
 
   upper-part : (k : ℕ) → k < d → (i : ℕ) → i ≤ k → entry B i (get_or S k 0) ≡ entry B 0 (get_or S k 0)
   upper-part k h zero l = refl
@@ -99,7 +99,7 @@ module _ {d : ℕ} {B : Matrix} {S : List ℕ} (M : StateMatrix d B S) where
       upper = upper-part k h;
       lower = λ i l m. below-place k h i l m ∙ sym (below-place k h d h (omega arith));
     };
-    even = odds-none (row B 0) (M.odd 0 (omega arith));
+    even = odds_none (row B 0) (M.odd 0 (omega arith));
     apart = λ j h.
         let p = place_of M.order j h in
         subst (λ c. (entry B d c ≡ suc (entry B 0 c)) ⊎ (entry B 0 c ≡ suc (entry B d c))) p.2 (apart-at p.0 p.1);
@@ -108,9 +108,9 @@ module _ {d : ℕ} {B : Matrix} {S : List ℕ} (M : StateMatrix d B S) where
 -- ---- and back
 
 -- The odd entry is odd.
-odd-below : (e o : ℕ) → e % 2 ≡ 0 → (o ≡ suc e) ⊎ (e ≡ suc o) → o % 2 ≡ 1
-odd-below e o h (inl p) = omega arith
-odd-below e o h (inr p) = omega arith
+odd_below : (e o : ℕ) → e % 2 ≡ 0 → (o ≡ suc e) ⊎ (e ≡ suc o) → o % 2 ≡ 1
+odd_below e o h (inl p) = omega arith
+odd_below e o h (inr p) = omega arith
 
 module _ {d : ℕ} {B : Matrix} {S : List ℕ} (C : Stairs d B S) where
   -- Where row k goes over to the next, the column at place k goes from its even to its odd entry, and the others stay.
@@ -136,21 +136,21 @@ module _ {d : ℕ} {B : Matrix} {S : List ℕ} (C : Stairs d B S) where
           ∙ sym (get_or-eq_default (row B (suc k)) 0 (omega (arith, C.wide (suc k) h)))
 
   odd-rows : (i : ℕ) → i ≤ d → odds (row B i) ≡ i
-  odd-rows zero h = none-odds (row B 0) C.even
+  odd-rows zero h = none_odds (row B 0) C.even
   odd-rows (suc k) h =
       let j = get_or S k 0 in
       let st = C.stair k h in
-      odds-more (row B k) (row B (suc k)) j (C.wide k (omega arith) ∙ sym (C.wide (suc k) h))
+      odds_more (row B k) (row B (suc k)) j (C.wide k (omega arith) ∙ sym (C.wide (suc k) h))
       (omega (arith, C.wide k (omega arith), C.order.inside k h))
       (other-columns k h)
       (ap (λ n. n % 2) (st.upper k (omega arith)) ∙ C.even j)
       (ap (λ n. n % 2) (st.lower (suc k) (omega arith) h)
-      ∙ odd-below (entry B 0 j) (entry B d j) (C.even j) (C.apart j (C.order.inside k h)))
+      ∙ odd_below (entry B 0 j) (entry B d j) (C.even j) (C.apart j (C.order.inside k h)))
       ∙ ap suc (odd-rows k (omega arith))
 
   -- Stairs at every place make a state matrix.
-  pub from-stairs : StateMatrix d B S
-  from-stairs = record {
+  pub from_stairs : StateMatrix d B S
+  from_stairs = record {
     rows = C.rows;
     wide = C.wide;
     odd = odd-rows;
@@ -169,121 +169,121 @@ module _ {d : ℕ} {B : Matrix} {S : List ℕ} (C : Stairs d B S) where
 -- ---- the step
 
 -- The new even entry of a column with entries e and o: twice its even one where its bit is 0, twice its odd one where it is 1.
-abbrev pub nextEven : ℕ → ℕ → ℕ → ℕ
-nextEven zero e o = e + e
-nextEven (suc b) e o = o + o
+abbrev pub next_even : ℕ → ℕ → ℕ → ℕ
+next_even zero e o = e + e
+next_even (suc b) e o = o + o
 
 module _ {d : ℕ} {B : Matrix} {S : List ℕ} (C : Stairs d B S) (r : List ℕ) (long : length r ≡ d) where
-  -- A column that goes from place rowX r (k+1) to place k, whose bit is 1.
-  stair-one : (k j e o : ℕ) → k < d → 0 < get_or r k 0 → Stair d B j (rowX r (suc k)) e o → Stair d (step B r) j k (o + o) (e + o)
+  -- A column that goes from place row_x r (k+1) to place k, whose bit is 1.
+  stair-one : (k j e o : ℕ) → k < d → 0 < get_or r k 0 → Stair d B j (row_x r (suc k)) e o → Stair d (step B r) j k (o + o) (e + o)
   stair-one k j e o h b st =
-      let here = onesTo-one r k (omega arith) b in
-      let most = (onesTo-between r (suc k) (length r) (omega arith)).0 in
+      let here = ones_to_one r k (omega arith) b in
+      let most = (ones_to_between r (suc k) (length r) (omega arith)).0 in
       record {
         upper = λ i l.
-            let way = (onesTo-between r i k l).0 in
+            let way = (ones_to_between r i k l).0 in
             entry-step B r i j (omega arith)
             ∙ ap₂ (λ a c. a + c)
-            (st.lower (rowX r i) (omega (arith, onesTo-all r)) (omega (arith, rowX-inside r i)))
-            (st.lower (rowY r i) (omega (arith, onesTo-all r)) (omega (arith, rowY-inside r i (omega arith))));
+            (st.lower (row_x r i) (omega (arith, ones_to_all r)) (omega (arith, row_x_inside r i)))
+            (st.lower (row_y r i) (omega (arith, ones_to_all r)) (omega (arith, row_y_inside r i (omega arith))));
         lower = λ i l m.
-            let way = (onesTo-between r (suc k) i l).0 in
+            let way = (ones_to_between r (suc k) i l).0 in
             entry-step B r i j (omega arith)
             ∙ ap₂ (λ a c. a + c)
-            (st.upper (rowX r i) (omega arith))
-            (st.lower (rowY r i) (omega (arith, onesTo-all r)) (omega (arith, rowY-inside r i (omega arith))));
+            (st.upper (row_x r i) (omega arith))
+            (st.lower (row_y r i) (omega (arith, ones_to_all r)) (omega (arith, row_y_inside r i (omega arith))));
       }
 
-  -- A column that goes from place rowY r k to place k, whose bit is 0.
-  stair-zero : (k j e o : ℕ) → k < d → get_or r k 0 ≡ 0 → Stair d B j (rowY r k) e o → Stair d (step B r) j k (e + e) (e + o)
+  -- A column that goes from place row_y r k to place k, whose bit is 0.
+  stair-zero : (k j e o : ℕ) → k < d → get_or r k 0 ≡ 0 → Stair d B j (row_y r k) e o → Stair d (step B r) j k (e + e) (e + o)
   stair-zero k j e o h b st =
-      let here = onesTo-zero r k (omega arith) b in
+      let here = ones_to_zero r k (omega arith) b in
       record {
         upper = λ i l.
-            let way = (onesTo-between r i k l).1 in
+            let way = (ones_to_between r i k l).1 in
             entry-step B r i j (omega arith)
             ∙ ap₂ (λ a c. a + c)
-            (st.upper (rowX r i) (omega arith))
-            (st.upper (rowY r i) (omega (arith, onesTo-le r i, onesTo-le r k)));
+            (st.upper (row_x r i) (omega arith))
+            (st.upper (row_y r i) (omega (arith, ones_to_le r i, ones_to_le r k)));
         lower = λ i l m.
-            let way = (onesTo-between r (suc k) i l).1 in
+            let way = (ones_to_between r (suc k) i l).1 in
             entry-step B r i j (omega arith)
             ∙ ap₂ (λ a c. a + c)
-            (st.upper (rowX r i) (omega arith))
-            (st.lower (rowY r i) (omega (arith, onesTo-le r i, onesTo-le r k))
-            (omega (arith, rowY-inside r i (omega arith))));
+            (st.upper (row_x r i) (omega arith))
+            (st.lower (row_y r i) (omega (arith, ones_to_le r i, ones_to_le r k))
+            (omega (arith, row_y_inside r i (omega arith))));
       }
 
   -- The column at new place k.
-  pub stair-step : (k : ℕ) → k < d
-      → Stair d (step B r) (get_or (stepOrder S r) k 0) k
-      (nextEven (get_or r k 0) (entry B 0 (get_or (stepOrder S r) k 0)) (entry B d (get_or (stepOrder S r) k 0)))
-      (entry B 0 (get_or (stepOrder S r) k 0) + entry B d (get_or (stepOrder S r) k 0))
-  stair-step k h = go (get_or r k 0) refl
+  pub stair_step : (k : ℕ) → k < d
+      → Stair d (step B r) (get_or (step_order S r) k 0) k
+      (next_even (get_or r k 0) (entry B 0 (get_or (step_order S r) k 0)) (entry B d (get_or (step_order S r) k 0)))
+      (entry B 0 (get_or (step_order S r) k 0) + entry B d (get_or (step_order S r) k 0))
+  stair_step k h = go (get_or r k 0) refl
     where
       New : ℕ → Type 0
       New b =
-          Stair d (step B r) (get_or (stepOrder S r) k 0) k
-          (nextEven b (entry B 0 (get_or (stepOrder S r) k 0)) (entry B d (get_or (stepOrder S r) k 0)))
-          (entry B 0 (get_or (stepOrder S r) k 0) + entry B d (get_or (stepOrder S r) k 0))
+          Stair d (step B r) (get_or (step_order S r) k 0) k
+          (next_even b (entry B 0 (get_or (step_order S r) k 0)) (entry B d (get_or (step_order S r) k 0)))
+          (entry B 0 (get_or (step_order S r) k 0) + entry B d (get_or (step_order S r) k 0))
 
       go : (b : ℕ) → get_or r k 0 ≡ b → New b
       go zero e =
           subst (λ j. Stair d (step B r) j k (entry B 0 j + entry B 0 j) (entry B 0 j + entry B d j))
-          (sym (stepOrder-zero S r k (omega arith) e))
-          (stair-zero k (get_or S (rowY r k) 0) (entry B 0 (get_or S (rowY r k) 0)) (entry B d (get_or S (rowY r k) 0)) h e
-          (C.stair (rowY r k)
-          (omega (arith, onesTo-zero r k (omega arith) e, onesTo-le r k, rowY-inside r (suc k) (omega arith)))))
+          (sym (step_order_zero S r k (omega arith) e))
+          (stair-zero k (get_or S (row_y r k) 0) (entry B 0 (get_or S (row_y r k) 0)) (entry B d (get_or S (row_y r k) 0)) h e
+          (C.stair (row_y r k)
+          (omega (arith, ones_to_zero r k (omega arith) e, ones_to_le r k, row_y_inside r (suc k) (omega arith)))))
       go (suc b) e =
           subst (λ j. Stair d (step B r) j k (entry B d j + entry B d j) (entry B 0 j + entry B d j))
-          (sym (stepOrder-one S r k (omega arith) (omega arith)))
-          (stair-one k (get_or S (rowX r (suc k)) 0) (entry B 0 (get_or S (rowX r (suc k)) 0)) (entry B d (get_or S (rowX r (suc k)) 0))
+          (sym (step_order_one S r k (omega arith) (omega arith)))
+          (stair-one k (get_or S (row_x r (suc k)) 0) (entry B 0 (get_or S (row_x r (suc k)) 0)) (entry B d (get_or S (row_x r (suc k)) 0))
           h (omega arith)
-          (C.stair (rowX r (suc k))
+          (C.stair (row_x r (suc k))
           (omega (
             arith,
-            onesTo-one r k (omega arith) (omega arith),
-            ones-le r,
-            onesTo-all r,
-            (onesTo-between r (suc k) (length r) (omega arith)).0,
+            ones_to_one r k (omega arith) (omega arith),
+            ones_le r,
+            ones_to_all r,
+            (ones_to_between r (suc k) (length r) (omega arith)).0,
           ))))
 
-  pub new-order : Arrangement d (stepOrder S r)
-  new-order = arrangement-step C.order r long
+  pub new_order : Arrangement d (step_order S r)
+  new_order = arrangement_step C.order r long
 
   -- The columns after a step are stairs at their new places.
-  pub stairs-step : Stairs d (step B r) (stepOrder S r)
-  stairs-step = record {
+  pub stairs_step : Stairs d (step B r) (step_order S r)
+  stairs_step = record {
     rows = length-step B r ∙ ap suc long;
     wide = wide_step d B r long C.wide;
-    order = new-order;
+    order = new_order;
     stair = λ k h.
-        let st = stair-step k h in
+        let st = stair_step k h in
         record {
           upper = λ i l. st.upper i l ∙ sym (st.upper 0 (omega arith));
           lower = λ i l m. st.lower i l m ∙ sym (st.lower d h (omega arith));
         };
     even = λ j.
         let e = entry-step B r 0 j (omega arith) in
-        let s : rowX r 0 ≡ rowY r 0 = omega (arith, onesTo-le r 0) in
+        let s : row_x r 0 ≡ row_y r 0 = omega (arith, ones_to_le r 0) in
         omega (arith, e, ap (λ i. entry B i j) s);
-    apart = λ j h. let p = place_of new-order j h in subst Apart p.2 (apart-new p.0 p.1);
+    apart = λ j h. let p = place_of new_order j h in subst Apart p.2 (apart-new p.0 p.1);
   }
     where
       Apart : ℕ → Type 0
       Apart j = (entry (step B r) d j ≡ suc (entry (step B r) 0 j)) ⊎ (entry (step B r) 0 j ≡ suc (entry (step B r) d j))
 
-      next-apart : (b e o : ℕ) → (o ≡ suc e) ⊎ (e ≡ suc o) → (e + o ≡ suc (nextEven b e o)) ⊎ (nextEven b e o ≡ suc (e + o))
+      next-apart : (b e o : ℕ) → (o ≡ suc e) ⊎ (e ≡ suc o) → (e + o ≡ suc (next_even b e o)) ⊎ (next_even b e o ≡ suc (e + o))
       next-apart zero e o (inl p) = inl (omega arith)
       next-apart zero e o (inr p) = inr (omega arith)
       next-apart (suc b) e o (inl p) = inr (omega arith)
       next-apart (suc b) e o (inr p) = inl (omega arith)
 
-      apart-new : (k : ℕ) → k < d → Apart (get_or (stepOrder S r) k 0)
+      apart-new : (k : ℕ) → k < d → Apart (get_or (step_order S r) k 0)
       apart-new k h =
-          let j = get_or (stepOrder S r) k 0 in
-          let st = stair-step k h in
+          let j = get_or (step_order S r) k 0 in
+          let st = stair_step k h in
           let low = st.lower d h (omega arith) in
           let up = st.upper 0 (omega arith) in
           ⊎_elim (λ e. inl (low ∙ e ∙ ap suc (sym up))) (λ e. inr (up ∙ e ∙ ap suc (sym low)))
-          (next-apart (get_or r k 0) (entry B 0 j) (entry B d j) (C.apart j (new-order.inside k h)))
+          (next-apart (get_or r k 0) (entry B 0 j) (entry B d j) (C.apart j (new_order.inside k h)))

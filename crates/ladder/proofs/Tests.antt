@@ -15,16 +15,16 @@ use lib.ListN.{length, drop, get_or, length-map, get_or-eq_default}
 use lib.Seq.{get_or-drop}
 use Rattle.ladder.specs.Lists.{tabulate, same, count, all}
 use Rattle.ladder.specs.Matrix.{OrderOk, IsUnit, Units}
-use Rattle.ladder.specs.Refusals.{◌then◌, refusing, unless, within, eachOnce, isArrangement, is_unit, allUnits, is_zero}
+use Rattle.ladder.specs.Refusals.{◌then◌, refusing, unless, within, each_once, is_arrangement, is_unit, all_units, is_zero}
 use Rattle.ladder.proofs.Lists.{length-tabulate, get_d_tabulate, get_d_map}
 
 -- ---- tests and their order
 
 -- Nothing is refused by two in a row only where neither refuses.
-pub then-none : (m n : ℕ) → m then n ≡ 0 → (m ≡ 0) × (n ≡ 0)
+pub then_none : (m n : ℕ) → m then n ≡ 0 → (m ≡ 0) × (n ≡ 0)
 unfolding ◌then◌
-then-none zero n e = (refl, e)
-then-none (suc m) n e = absurd (omega arith)
+then_none zero n e = (refl, e)
+then_none (suc m) n e = absurd (omega arith)
 
 -- Where neither of two refuses, nothing is refused by them in a row.
 pub none_then : (m n : ℕ) → m ≡ 0 → n ≡ 0 → m then n ≡ 0
@@ -32,14 +32,14 @@ unfolding ◌then◌
 none_then m n e f = rw e f
 
 -- So two in a row ask what each asks.
-pub then-says : {m n : ℕ} {P Q : Type 0} → m ≡ 0 ↔ P → n ≡ 0 ↔ Q → m then n ≡ 0 ↔ P × Q
-then-says {m} {n} p q = (λ e. let t = then-none m n e in (p.0 t.0, q.0 t.1), λ t. none_then m n (p.1 t.0) (q.1 t.1))
+pub then_says : {m n : ℕ} {P Q : Type 0} → m ≡ 0 ↔ P → n ≡ 0 ↔ Q → m then n ≡ 0 ↔ P × Q
+then_says {m} {n} p q = (λ e. let t = then_none m n e in (p.0 t.0, q.0 t.1), λ t. none_then m n (p.1 t.0) (q.1 t.1))
 
 -- A refusal that applies is the one given, whatever comes after it ..
-pub then-first : (m n : ℕ) → (m ≡ 0 → ⊥) → m then n ≡ m
+pub then_first : (m n : ℕ) → (m ≡ 0 → ⊥) → m then n ≡ m
 unfolding ◌then◌
-then-first zero n ne = absurd (ne refl)
-then-first (suc m) n ne = refl
+then_first zero n ne = absurd (ne refl)
+then_first (suc m) n ne = refl
 
 -- .. and one that does not leaves the next.
 pub then_next : (m n : ℕ) → m ≡ 0 → m then n ≡ n
@@ -47,10 +47,10 @@ unfolding ◌then◌
 then_next m n e = rw e
 
 -- Refusals in a row have one order, however they are grouped.
-pub then-assoc : (m n k : ℕ) → (m then n) then k ≡ m then n then k
+pub then_assoc : (m n k : ℕ) → (m then n) then k ≡ m then n then k
 unfolding ◌then◌
-then-assoc zero n k = refl
-then-assoc (suc m) n k = refl
+then_assoc zero n k = refl
+then_assoc (suc m) n k = refl
 
 -- Two in a row that are each 0 or one number are 0 or that number.
 pub then_is : (m n k : ℕ) → (m ≡ 0) ⊎ (m ≡ k) → (n ≡ 0) ⊎ (n ≡ k) → (m then n ≡ 0) ⊎ (m then n ≡ k)
@@ -59,33 +59,33 @@ then_is zero n k p q = q
 then_is (suc m) n k p q = p
 
 -- A refusal that is not given has its test passed.
-pub unless-none : (test : Bool) (n : ℕ) → unless test (suc n) ≡ 0 → T test
+pub unless_none : (test : Bool) (n : ℕ) → unless test (suc n) ≡ 0 → T test
 unfolding unless
-unless-none true n e = tt
-unless-none false n e = omega arith
+unless_none true n e = tt
+unless_none false n e = omega arith
 
 -- A passed test gives no refusal.
-pub none-unless : (test : Bool) (n : ℕ) → T test → unless test n ≡ 0
+pub none_unless : (test : Bool) (n : ℕ) → T test → unless test n ≡ 0
 unfolding unless
-none-unless true n t = refl
-none-unless false n t = absurd t
+none_unless true n t = refl
+none_unless false n t = absurd t
 
 -- A test gives 0 or its own number.
-pub unless-is : (test : Bool) (n : ℕ) → (unless test n ≡ 0) ⊎ (unless test n ≡ n)
+pub unless_is : (test : Bool) (n : ℕ) → (unless test n ≡ 0) ⊎ (unless test n ≡ n)
 unfolding unless
-unless-is true n = inl refl
-unless-is false n = inr refl
+unless_is true n = inl refl
+unless_is false n = inr refl
 
 -- What a call leaves where nothing is refused, and where something is.
-pub refusing-no : {A : Type 0} (n : ℕ) (refused accepted : A) → n ≡ 0 → refusing n refused accepted ≡ accepted
+pub refusing_no : {A : Type 0} (n : ℕ) (refused accepted : A) → n ≡ 0 → refusing n refused accepted ≡ accepted
 unfolding refusing
-refusing-no zero refused accepted e = refl
-refusing-no (suc n) refused accepted e = absurd (omega arith)
+refusing_no zero refused accepted e = refl
+refusing_no (suc n) refused accepted e = absurd (omega arith)
 
-pub refusing-yes : {A : Type 0} (n : ℕ) (refused accepted : A) → (n ≡ 0 → ⊥) → refusing n refused accepted ≡ refused
+pub refusing_yes : {A : Type 0} (n : ℕ) (refused accepted : A) → (n ≡ 0 → ⊥) → refusing n refused accepted ≡ refused
 unfolding refusing
-refusing-yes zero refused accepted e = absurd (e refl)
-refusing-yes (suc n) refused accepted e = refl
+refusing_yes zero refused accepted e = absurd (e refl)
+refusing_yes (suc n) refused accepted e = refl
 
 -- What is left by one refusal is left by its equal.
 pub refusing-same : {A : Type 0} {m n : ℕ} {a b : A} (refused accepted : A) → m ≡ n
@@ -93,10 +93,10 @@ pub refusing-same : {A : Type 0} {m n : ℕ} {a b : A} (refused accepted : A) �
 refusing-same refused accepted e x y = x ∙ ap (λ k. refusing k refused accepted) e ∙ sym y
 
 -- What is left is the same where what would be accepted is.
-pub refusing-accepted : {A : Type 0} (n : ℕ) (refused a b : A) → (n ≡ 0 → a ≡ b) → refusing n refused a ≡ refusing n refused b
+pub refusing_accepted : {A : Type 0} (n : ℕ) (refused a b : A) → (n ≡ 0 → a ≡ b) → refusing n refused a ≡ refusing n refused b
 unfolding refusing
-refusing-accepted zero refused a b e = e refl
-refusing-accepted (suc n) refused a b e = refl
+refusing_accepted zero refused a b e = e refl
+refusing_accepted (suc n) refused a b e = refl
 
 -- ---- what tests say
 
@@ -106,64 +106,64 @@ pub record Says (test : Bool) (P : Type 0) : Type 0 where
   pub passed : P → T test
 
 -- What a test says is what its refusal being 0 says.
-pub unless-says : {test : Bool} {P : Type 0} (n : ℕ) → Says test P → unless test (suc n) ≡ 0 ↔ P
-unless-says {test} n s = (λ e. s.told (unless-none test n e), λ p. none-unless test (suc n) (s.passed p))
+pub unless_says : {test : Bool} {P : Type 0} (n : ℕ) → Says test P → unless test (suc n) ≡ 0 ↔ P
+unless_says {test} n s = (λ e. s.told (unless_none test n e), λ p. none_unless test (suc n) (s.passed p))
 
 -- The same in other words.
 pub reworded : {test : Bool} {P Q : Type 0} → Says test P → P ↔ Q → Says test Q
 reworded s e = record { told = λ t. e.0 (s.told t); passed = λ q. s.passed (e.1 q) }
 
 -- The test of "at most".
-pub leb-says : (m n : ℕ) → Says (leb m n) (m ≤ n)
-leb-says m n = record { told = leb→le m n; passed = le→leb m n }
+pub leb_says : (m n : ℕ) → Says (leb m n) (m ≤ n)
+leb_says m n = record { told = leb→le m n; passed = le→leb m n }
 
 -- The test of equality.
-pub eqb-says : (m n : ℕ) → Says (eqb m n) (m ≡ n)
-eqb-says m n = record { told = eqb→eq m n; passed = λ e. subst (λ k. T (eqb m k)) e (eqb_refl m) }
+pub eqb_says : (m n : ℕ) → Says (eqb m n) (m ≡ n)
+eqb_says m n = record { told = eqb→eq m n; passed = λ e. subst (λ k. T (eqb m k)) e (eqb_refl m) }
 
 -- It passes where that is so, and fails where it is not ..
-pub says-yes : {t : Bool} {P : Type 0} → Says t P → P → true ≡ t
-says-yes {t = true} s p = refl
-says-yes {t = false} s p = absurd (s.passed p)
+pub says_yes : {t : Bool} {P : Type 0} → Says t P → P → true ≡ t
+says_yes {t = true} s p = refl
+says_yes {t = false} s p = absurd (s.passed p)
 
-pub says-no : {t : Bool} {P : Type 0} → Says t P → (P → ⊥) → false ≡ t
-says-no {t = true} s n = absurd (n (s.told tt))
-says-no {t = false} s n = refl
+pub says_no : {t : Bool} {P : Type 0} → Says t P → (P → ⊥) → false ≡ t
+says_no {t = true} s n = absurd (n (s.told tt))
+says_no {t = false} s n = refl
 
 -- .. and the other way round.
-pub says-true : {t : Bool} {P : Type 0} → Says t P → t ≡ true → P
-says-true s e = s.told (rw e tt)
+pub says_true : {t : Bool} {P : Type 0} → Says t P → t ≡ true → P
+says_true s e = s.told (rw e tt)
 
-pub says-false : {t : Bool} {P : Type 0} → Says t P → t ≡ false → P → ⊥
-says-false s e p = rw e at (s.passed p)
+pub says_false : {t : Bool} {P : Type 0} → Says t P → t ≡ false → P → ⊥
+says_false s e p = rw e at (s.passed p)
 
 -- Two tests say what both say.
-pub and-says : {a b : Bool} {P Q : Type 0} → Says a P → Says b Q → Says (a && b) (P × Q)
-and-says {a = true} p q = record { told = λ t. (p.told tt, q.told t); passed = λ t. q.passed t.1 }
-and-says {a = false} p q = record { told = λ t. absurd t; passed = λ t. p.passed t.0 }
+pub and_says : {a b : Bool} {P Q : Type 0} → Says a P → Says b Q → Says (a && b) (P × Q)
+and_says {a = true} p q = record { told = λ t. (p.told tt, q.told t); passed = λ t. q.passed t.1 }
+and_says {a = false} p q = record { told = λ t. absurd t; passed = λ t. p.passed t.0 }
 
 -- The test of a range.
-pub within-says : (lo hi n : ℕ) → Says (within lo hi n) ((lo ≤ n) × (n ≤ hi))
+pub within_says : (lo hi n : ℕ) → Says (within lo hi n) ((lo ≤ n) × (n ≤ hi))
 unfolding within
-within-says lo hi n = and-says (leb-says lo n) (leb-says n hi)
+within_says lo hi n = and_says (leb_says lo n) (leb_says n hi)
 
 -- A test of all elements says of each what it says of one.
-pub all-says : {A : Type 0} {P : A → Type 0} (test : A → Bool) (z : A) (l : List A)
+pub all_says : {A : Type 0} {P : A → Type 0} (test : A → Bool) (z : A) (l : List A)
     → ((a : A) → Says (test a) (P a)) → Says (all test l) ((j : ℕ) → j < length l → P (get_or l j z))
 unfolding all
-all-says test z [] says = record { told = λ t j h. absurd (not-suc-le-zero h); passed = λ f. tt }
-all-says {P} test z (a ∷ l) says =
-    reworded (and-says (says a) (all-says test z l says)) (each, λ f. (f zero (omega arith), λ j h. f (suc j) (omega arith)))
+all_says test z [] says = record { told = λ t j h. absurd (not-suc-le-zero h); passed = λ f. tt }
+all_says {P} test z (a ∷ l) says =
+    reworded (and_says (says a) (all_says test z l says)) (each, λ f. (f zero (omega arith), λ j h. f (suc j) (omega arith)))
   where
     each : P a × ((j : ℕ) → j < length l → P (get_or l j z)) → (j : ℕ) → j < length (a ∷ l) → P (get_or (a ∷ l) j z)
     each t zero h = t.0
     each t (suc j) h = t.1 j (le_of_suc-le-suc h)
 
 -- A test that says "is z", of all elements past n, says that z stands everywhere past n.
-pub past-says : {A : Type 0} (test : A → Bool) (z : A) (n : ℕ) (l : List A)
+pub past_says : {A : Type 0} (test : A → Bool) (z : A) (n : ℕ) (l : List A)
     → ((a : A) → Says (test a) (a ≡ z)) → Says (all test (drop n l)) ((j : ℕ) → n ≤ j → get_or l j z ≡ z)
-past-says test z n l says =
-    reworded (all-says test z (drop n l) says) (
+past_says test z n l says =
+    reworded (all_says test z (drop n l) says) (
       λ f j h.
           let e : n + (j - n) ≡ j = omega arith in
           ap (λ k. get_or l k z) (sym e) ∙ sym (get_or-drop n l (j - n) z) ∙ past f (j - n) (dec_lt (j - n) (length (drop n l))),
@@ -175,15 +175,15 @@ past-says test z n l says =
     past f j (no h) = get_or-eq_default (drop n l) z (omega arith)
 
 -- Every number is below a bound.
-pub below-says : (bound : ℕ) (l : List ℕ) → Says (all (λ n. ltb n bound) l) ((j : ℕ) → j < length l → get_or l j 0 < bound)
-below-says bound l = all-says (λ n. ltb n bound) 0 l (λ n. leb-says (suc n) bound)
+pub below_says : (bound : ℕ) (l : List ℕ) → Says (all (λ n. ltb n bound) l) ((j : ℕ) → j < length l → get_or l j 0 < bound)
+below_says bound l = all_says (λ n. ltb n bound) 0 l (λ n. leb_says (suc n) bound)
 
 -- Each of 1..n occurs once.
-pub eachOnce-says : (n : ℕ) (S : List ℕ) → Says (eachOnce n S) ((j : ℕ) → j < n → count (suc j) S ≡ 1)
-unfolding eachOnce
-eachOnce-says zero S = record { told = λ t j h. absurd (not-suc-le-zero h); passed = λ f. tt }
-eachOnce-says (suc n) S =
-    reworded (and-says (eqb-says (count (suc n) S) 1) (eachOnce-says n S))
+pub each_once_says : (n : ℕ) (S : List ℕ) → Says (each_once n S) ((j : ℕ) → j < n → count (suc j) S ≡ 1)
+unfolding each_once
+each_once_says zero S = record { told = λ t j h. absurd (not-suc-le-zero h); passed = λ f. tt }
+each_once_says (suc n) S =
+    reworded (and_says (eqb_says (count (suc n) S) 1) (each_once_says n S))
     (λ t j h. up_to t j (ℕ_discrete j n) h, λ f. (f n (omega arith), λ j h. f j (omega arith)))
   where
     up_to : (count (suc n) S ≡ 1) × ((i : ℕ) → i < n → count (suc i) S ≡ 1)
@@ -194,13 +194,13 @@ eachOnce-says (suc n) S =
 -- ---- orders
 
 -- An order has d places ..
-pub order-long : {d : ℕ} (S : List ℕ) → OrderOk d S → length S ≡ d
-order-long S o = sym (length-map S pred) ∙ o.columns.long
+pub order_long : {d : ℕ} (S : List ℕ) → OrderOk d S → length S ≡ d
+order_long S o = sym (length-map S pred) ∙ o.columns.long
 
 -- .. and each holds a column from 1 to d.
-pub order-at : {d : ℕ} (S : List ℕ) → OrderOk d S → (k : ℕ) → k < d
+pub order_at : {d : ℕ} (S : List ℕ) → OrderOk d S → (k : ℕ) → k < d
     → (1 ≤ get_or S k 0) × (get_or S k 0 - 1 ≡ get_or (map pred S) k 0) × (get_or (map pred S) k 0 < d)
-order-at S o k h =
+order_at S o k h =
     let one : get_or S k 0 ≡ suc (get_or (map pred S) k 0) =
     ap (λ l. get_or l k 0) o.counted ∙ get_d_map suc (map pred S) k 0 0 (omega (arith, o.columns.long)) in
     (omega arith, omega arith, o.columns.inside k h)
@@ -218,10 +218,10 @@ suc-pred (n ∷ S) h =
     ap₂ (λ a l. a ∷ l) (sym (suc-pred-eq_of_pos (h zero (omega arith)))) (suc-pred S (λ j l. h (suc j) (omega arith)))
 
 -- The test of an order says that it is an arrangement of 1..d.
-pub isArrangement-says : (d : ℕ) (S : List ℕ) → Says (isArrangement d S) (OrderOk d S)
-unfolding isArrangement
-isArrangement-says d S =
-    reworded (and-says (and-says (eqb-says (length S) d) (all-says (within 1 d) 0 S (within-says 1 d))) (eachOnce-says d S)) (
+pub is_arrangement_says : (d : ℕ) (S : List ℕ) → Says (is_arrangement d S) (OrderOk d S)
+unfolding is_arrangement
+is_arrangement_says d S =
+    reworded (and_says (and_says (eqb_says (length S) d) (all_says (within 1 d) 0 S (within_says 1 d))) (each_once_says d S)) (
       λ t.
           let counted : S ≡ map suc (map pred S) = suc-pred S (λ j h. (t.0.1 j h).0) in
           record {
@@ -233,7 +233,7 @@ isArrangement-says d S =
             counted = counted;
           },
       λ ok.
-          let long = order-long S ok in (
+          let long = order_long S ok in (
             (long, λ j h. omega (arith, at ok j h, ok.columns.inside j (omega arith))),
             λ j h. ap (count (suc j)) ok.counted ∙ count-suc j (map pred S) ∙ ok.columns.once j h,
           ),
@@ -246,19 +246,19 @@ isArrangement-says d S =
 -- ---- signs
 
 -- A sign is 1 or -1.
-pub isUnit-says : (s : ℤ) → Says (is_unit s) ((s ≡ pos 1) ⊎ (s ≡ negsuc 0))
+pub is_unit_says : (s : ℤ) → Says (is_unit s) ((s ≡ pos 1) ⊎ (s ≡ negsuc 0))
 unfolding is_unit
-isUnit-says (pos n) =
-    reworded (eqb-says n 1) (λ e. inl (ap pos e), ⊎_elim (λ e. (cc)) (λ e. absurd (pos-ne-negsuc n 0 e)))
-isUnit-says (negsuc n) =
-    reworded (eqb-says n 0) (λ e. inr (ap negsuc e), ⊎_elim (λ e. absurd (pos-ne-negsuc 1 n (sym e))) (λ e. (cc)))
+is_unit_says (pos n) =
+    reworded (eqb_says n 1) (λ e. inl (ap pos e), ⊎_elim (λ e. (cc)) (λ e. absurd (pos-ne-negsuc n 0 e)))
+is_unit_says (negsuc n) =
+    reworded (eqb_says n 0) (λ e. inr (ap negsuc e), ⊎_elim (λ e. absurd (pos-ne-negsuc 1 n (sym e))) (λ e. (cc)))
 
 -- The first d signs are 1 or -1 ..
-pub allUnits-says : (d : ℕ) (signs : List ℤ) → Says (allUnits d signs) (Units d signs)
-unfolding allUnits
-allUnits-says d signs =
+pub all_units_says : (d : ℕ) (signs : List ℤ) → Says (all_units d signs) (Units d signs)
+unfolding all_units
+all_units_says d signs =
     let sign : ℕ → ℤ = λ j. get_or signs j (pos 0) in
-    reworded (all-says is_unit (pos 0) (tabulate d sign) isUnit-says) (
+    reworded (all_says is_unit (pos 0) (tabulate d sign) is_unit_says) (
       λ f j h. rw (get_d_tabulate d sign j (pos 0) h) at (f j (omega (arith, length-tabulate d sign))),
       λ f j h.
           let b : j < d = omega (arith, length-tabulate d sign) in
@@ -266,8 +266,8 @@ allUnits-says d signs =
     )
 
 -- .. so there are as many: one that the list lacks counts as 0.
-pub units-long : (d : ℕ) (signs : List ℤ) → Units d signs → d ≤ length signs
-units-long d signs u = go (dec_le d (length signs))
+pub units_long : (d : ℕ) (signs : List ℤ) → Units d signs → d ≤ length signs
+units_long d signs u = go (dec_le d (length signs))
   where
     zero-no-unit : IsUnit (pos 0) → ⊥
     zero-no-unit (inl e) = omega (arith, ap nat_abs e)
@@ -279,7 +279,7 @@ units-long d signs u = go (dec_le d (length signs))
         absurd (zero-no-unit (subst IsUnit (get_or-eq_default signs (pos 0) (omega arith)) (u (length signs) (omega arith))))
 
 -- A sign is 0.
-pub isZero-says : (s : ℤ) → Says (is_zero s) (s ≡ pos 0)
+pub is_zero_says : (s : ℤ) → Says (is_zero s) (s ≡ pos 0)
 unfolding is_zero
-isZero-says (pos n) = reworded (eqb-says n 0) (λ e. ap pos e, λ e. (cc))
-isZero-says (negsuc n) = record { told = λ t. absurd t; passed = λ e. pos-ne-negsuc 0 n (sym e) }
+is_zero_says (pos n) = reworded (eqb_says n 0) (λ e. ap pos e, λ e. (cc))
+is_zero_says (negsuc n) = record { told = λ t. absurd t; passed = λ e. pos-ne-negsuc 0 n (sym e) }

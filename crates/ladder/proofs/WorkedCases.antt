@@ -7,15 +7,15 @@ use mathlib.Core.Path.{◌≡◌, refl}
 use mathlib.Core.List.{List, [], ◌∷◌, map, flatten}
 use lib.ListN.{get_or}
 use Rattle.ladder.specs.Lists.{tabulate, joined, same, count, ones, odds, all}
-use Rattle.ladder.specs.Numbers.{number_of, bit_at, byte_of, bytesFor, packBits, bitsLength, bits_at}
-use Rattle.ladder.specs.Matrix.{Matrix, addRows, doubleRow, bump, rows_from, startMatrix, pairsFrom, additions, step, orderFrom, stepOrder, matrixAfter, orderAfter}
-use Rattle.ladder.specs.Plan.{Plan, planLent, startOrder, matrixIn, order_in, lastMatrix, endOrder, answerRow}
-use Rattle.ladder.specs.Encoding.{scalarBit, xor, dealt, deal, picked, passed, rearrange, orderToGo, encodedStart, encodedBits, encodeWith, houseOrder, encode}
-use Rattle.ladder.specs.Trace.{difference, vectorOf, operations, entry_of, block, blockIn, entriesIn, signedByte, entryBytes, traceBytes, doublings, additionCount}
-use Rattle.ladder.specs.Registers.{stepRegisters, registersAfter, modulus, sum_of, combination, timesSigned, signedSum, plainRule, differenceAdd, differenceRule, startFrom, startRegisters, plainRegisters, differenceRegisters, answerRegister}
-use Rattle.ladder.specs.PlanFile.{mark, trailerSize, bodyLength, trailerByte, dIn, answer_in, lIn, distanceIn, markIn, bodyPlace, bodyIn, planIn, twoBytes, fourBytes, fileOf}
-use Rattle.ladder.specs.Refusals.{◌then◌, unless, within, dim, len, eachOnce, isArrangement, order, answer, same_numbers, trailer, distance, readRefusal, planRefusal, unpackRefusal, refusing, big, listRefusal}
-use Rattle.ladder.specs.Listing.{digitsWithin, digitsOf, character, decimal, hexadecimal, spaced, line, planWord, startWord, valueWord, planLine, startLine, stepLine, valueLine, planText, listingText}
+use Rattle.ladder.specs.Numbers.{number_of, bit_at, byte_of, bytes_for, pack_bits, bits_length, bits_at}
+use Rattle.ladder.specs.Matrix.{Matrix, add_rows, double_row, bump, rows_from, start_matrix, pairs_from, additions, step, order_from, step_order, matrix_after, order_after}
+use Rattle.ladder.specs.Plan.{Plan, plan_lent, start_order, matrix_in, order_in, last_matrix, end_order, answer_row}
+use Rattle.ladder.specs.Encoding.{scalar_bit, xor, dealt, deal, picked, passed, rearrange, order_to_go, encoded_start, encoded_bits, encode_with, house_order, encode}
+use Rattle.ladder.specs.Trace.{difference, vector_of, operations, entry_of, block, block_in, entries_in, signed_byte, entry_bytes, trace_bytes, doublings, addition_count}
+use Rattle.ladder.specs.Registers.{step_registers, registers_after, modulus, sum_of, combination, times_signed, signed_sum, plain_rule, difference_add, difference_rule, start_from, start_registers, plain_registers, difference_registers, answer_register}
+use Rattle.ladder.specs.PlanFile.{mark, trailer_size, body_length, trailer_byte, d_in, answer_in, l_in, distance_in, mark_in, body_place, body_in, plan_in, two_bytes, four_bytes, file_of}
+use Rattle.ladder.specs.Refusals.{◌then◌, unless, within, dim, len, each_once, is_arrangement, order, answer, same_numbers, trailer, distance, read_refusal, plan_refusal, unpack_refusal, refusing, big, list_refusal}
+use Rattle.ladder.specs.Listing.{digits_within, digits_of, character, decimal, hexadecimal, spaced, line, plan_word, start_word, value_word, plan_line, start_line, step_line, value_line, plan_text, listing_text}
 
 pub data Case : Type 0 where
   -- d, l and scalars; start order, bytes and answer row; last rows
@@ -37,24 +37,24 @@ pub data Case : Type 0 where
 
 -- The plan of scalars is as it is written down, has these last rows, and decodes to the scalars.
 abbrev pub Encodes : Plan → List ℕ → Plan → Matrix → Type 0
-Encodes p scalars written last = (p ≡ written) × (lastMatrix p ≡ last) × (answerRow p ≡ scalars)
+Encodes p scalars written last = (p ≡ written) × (last_matrix p ≡ last) × (answer_row p ≡ scalars)
 
 abbrev pub Holds : Case → Type 0
 Holds (encoding d l scalars start bits answer last) =
-    Encodes (encode d l scalars) scalars (planLent d l start bits answer) last
+    Encodes (encode d l scalars) scalars (plan_lent d l start bits answer) last
 Holds (ending d l scalars order start bits answer last) =
-    Encodes (encodeWith d l scalars (map pred order)) scalars (planLent d l start bits answer) last
-Holds (listing file text) = listingText file ≡ text
+    Encodes (encode_with d l scalars (map pred order)) scalars (plan_lent d l start bits answer) last
+Holds (listing file text) = listing_text file ≡ text
 Holds (tracing d l scalars bytes doubled added) =
-    (traceBytes (entriesIn (encode d l scalars)) ≡ bytes)
-    × (doublings (entriesIn (encode d l scalars)) ≡ doubled)
-    × (additionCount (entriesIn (encode d l scalars)) ≡ added)
+    (trace_bytes (entries_in (encode d l scalars)) ≡ bytes)
+    × (doublings (entries_in (encode d l scalars)) ≡ doubled)
+    × (addition_count (entries_in (encode d l scalars)) ≡ added)
 Holds (running d l scalars m elements registers answer) =
-    (plainRegisters (encode d l scalars) m elements l ≡ registers)
-    × (differenceRegisters (encode d l scalars) m elements l ≡ registers)
-    × (answerRegister (encode d l scalars) registers ≡ answer)
+    (plain_registers (encode d l scalars) m elements l ≡ registers)
+    × (difference_registers (encode d l scalars) m elements l ≡ registers)
+    × (answer_register (encode d l scalars) registers ≡ answer)
 Holds (packing d l scalars bytes) =
-    (fileOf (encode d l scalars) ≡ bytes) × (planIn bytes ≡ encode d l scalars) × (unpackRefusal bytes ≡ 0)
+    (file_of (encode d l scalars) ≡ bytes) × (plan_in bytes ≡ encode d l scalars) × (unpack_refusal bytes ≡ 0)
 Holds (wording words n) = number_of words ≡ n
 Holds (stepping B r after) = step B r ≡ after
 
@@ -103,9 +103,9 @@ cases =
     ∷ encoding 1 2 (1 ∷ []) (1 ∷ []) (0x40 ∷ []) 2 ((2 ∷ []) ∷ (1 ∷ []) ∷ [])
     ∷ []
 
-pub cases-hold : AllHold cases
-unfolding tabulate joined same count ones odds all number_of bit_at byte_of bytesFor packBits bitsLength addRows doubleRow bump rows_from startMatrix pairsFrom additions step orderFrom stepOrder matrixAfter orderAfter startOrder bits_at matrixIn order_in lastMatrix endOrder answerRow scalarBit xor dealt deal picked passed rearrange orderToGo encodedStart encodedBits encodeWith houseOrder encode difference vectorOf operations entry_of block blockIn entriesIn signedByte entryBytes traceBytes doublings additionCount stepRegisters registersAfter modulus sum_of combination timesSigned signedSum plainRule differenceAdd differenceRule startFrom startRegisters plainRegisters differenceRegisters answerRegister flatten mark trailerSize bodyLength trailerByte dIn answer_in lIn distanceIn markIn bodyPlace bodyIn planIn twoBytes fourBytes fileOf ◌then◌ unless within dim len eachOnce isArrangement order answer same_numbers trailer distance readRefusal planRefusal unpackRefusal refusing big listRefusal digitsWithin digitsOf character decimal hexadecimal spaced line planWord startWord valueWord planLine startLine stepLine valueLine planText listingText
-cases-hold = (
+pub cases_hold : AllHold cases
+unfolding tabulate joined same count ones odds all number_of bit_at byte_of bytes_for pack_bits bits_length add_rows double_row bump rows_from start_matrix pairs_from additions step order_from step_order matrix_after order_after start_order bits_at matrix_in order_in last_matrix end_order answer_row scalar_bit xor dealt deal picked passed rearrange order_to_go encoded_start encoded_bits encode_with house_order encode difference vector_of operations entry_of block block_in entries_in signed_byte entry_bytes trace_bytes doublings addition_count step_registers registers_after modulus sum_of combination times_signed signed_sum plain_rule difference_add difference_rule start_from start_registers plain_registers difference_registers answer_register flatten mark trailer_size body_length trailer_byte d_in answer_in l_in distance_in mark_in body_place body_in plan_in two_bytes four_bytes file_of ◌then◌ unless within dim len each_once is_arrangement order answer same_numbers trailer distance read_refusal plan_refusal unpack_refusal refusing big list_refusal digits_within digits_of character decimal hexadecimal spaced line plan_word start_word value_word plan_line start_line step_line value_line plan_text listing_text
+cases_hold = (
   (refl, refl, refl),
   (
     (refl, refl, refl),
@@ -138,11 +138,11 @@ cases-hold = (
 )
 
 -- So each of them holds, by its place in the list.
-all-at : (cs : List Case) → AllHold cs → (i : ℕ) → Holds (get_or cs i (wording [] 0))
+all_at : (cs : List Case) → AllHold cs → (i : ℕ) → Holds (get_or cs i (wording [] 0))
 unfolding number_of
-all-at [] t i = refl
-all-at (c ∷ cs) t zero = t.0
-all-at (c ∷ cs) t (suc i) = all-at cs t.1 i
+all_at [] t i = refl
+all_at (c ∷ cs) t zero = t.0
+all_at (c ∷ cs) t (suc i) = all_at cs t.1 i
 
-pub case-holds : (i : ℕ) → Holds (get_or cases i (wording [] 0))
-case-holds = all-at cases cases-hold
+pub case_holds : (i : ℕ) → Holds (get_or cases i (wording [] 0))
+case_holds = all_at cases cases_hold

@@ -19,9 +19,9 @@ take-replicate (suc n) zero a h = absurd (omega arith)
 take-replicate (suc n) (suc m) a h = ap (λ l. a ∷ l) (take-replicate n m a (omega arith))
 
 -- A run written at the front of a list of one value stands there, and the value behind it.
-pub sets-front : {A : Type 0} (d n : ℕ) (a : A) (vs : List A) → length vs ≡ d → d ≤ n
+pub sets_front : {A : Type 0} (d n : ℕ) (a : A) (vs : List A) → length vs ≡ d → d ≤ n
     → sets (replicate n a) 0 vs ≡ vs ++ replicate (n - d) a
-sets-front d n a vs e h =
+sets_front d n a vs e h =
     sets-eq vs (replicate n a) 0 (omega (arith, length-replicate n a))
     ∙ ap (λ rest. vs ++ rest) (ap (λ k. drop k (replicate n a)) (zero-add (length vs) ∙ e) ∙ drop-replicate d n a)
 
@@ -31,12 +31,12 @@ sets-append l i [] vs = ap (λ k. sets l k vs) (sym (add-zero i))
 sets-append l i (a ∷ us) vs = sets-append _ (suc i) us vs ∙ ap (λ k. sets (sets l i (a ∷ us)) k vs) (omega arith)
 
 -- A run as long as the list is all of it.
-pub sets-whole : {A : Type 0} (l vs : List A) → length vs ≡ length l → sets l 0 vs ≡ vs
-sets-whole l vs e =
+pub sets_whole : {A : Type 0} (l vs : List A) → length vs ≡ length l → sets l 0 vs ≡ vs
+sets_whole l vs e =
     sets-eq vs l 0 (omega arith)
     ∙ ap (λ rest. vs ++ rest) (drop_of_length-le l {i = 0 + length vs} (omega arith)) ∙ append-nil vs
 
 -- What stands before a run stays.
-pub sets-before : {A : Type 0} (l : List A) (i : ℕ) (vs : List A) (k : ℕ) (a : A) → k < i → get_or (sets l i vs) k a ≡ get_or l k a
-sets-before l i [] k a h = refl
-sets-before l i (b ∷ vs) k a h = sets-before (set l i b) (suc i) vs k a (omega arith) ∙ get_or-set_other l i k b a (omega arith)
+pub sets_before : {A : Type 0} (l : List A) (i : ℕ) (vs : List A) (k : ℕ) (a : A) → k < i → get_or (sets l i vs) k a ≡ get_or l k a
+sets_before l i [] k a h = refl
+sets_before l i (b ∷ vs) k a h = sets_before (set l i b) (suc i) vs k a (omega arith) ∙ get_or-set_other l i k b a (omega arith)

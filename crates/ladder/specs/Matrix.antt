@@ -23,14 +23,14 @@ abbrev pub entry : Matrix → ℕ → ℕ → ℕ
 entry B i j = get_or (row B i) j 0
 
 -- The sum of two rows, entry by entry; a row that is shorter counts as filled up with 0.
-unfoldable pub addRows : Row → Row → Row
-addRows [] v = v
-addRows (a ∷ u) [] = a ∷ u
-addRows (a ∷ u) (b ∷ v) = (a + b) ∷ addRows u v
+unfoldable pub add_rows : Row → Row → Row
+add_rows [] v = v
+add_rows (a ∷ u) [] = a ∷ u
+add_rows (a ∷ u) (b ∷ v) = (a + b) ∷ add_rows u v
 
 -- Twice a row.
-unfoldable pub doubleRow : Row → Row
-doubleRow u = map (λ a. 2 * a) u
+unfoldable pub double_row : Row → Row
+double_row u = map (λ a. 2 * a) u
 
 -- ---- what a state matrix is
 
@@ -76,8 +76,8 @@ abbrev pub Units : ℕ → List ℤ → Type 0
 Units d signs = (j : ℕ) → j < d → IsUnit (get_or signs j (pos 0))
 
 -- The signs of a state matrix, by column number. Row 0 has every column's even entry, row d every column's odd one.
-unfoldable pub signsOf : ℕ → Matrix → List ℤ
-signsOf d B = tabulate d (λ j. sign_of (entry B 0 j) (entry B d j))
+unfoldable pub signs_of : ℕ → Matrix → List ℤ
+signs_of d B = tabulate d (λ j. sign_of (entry B 0 j) (entry B d j))
 
 -- ---- the start matrix
 
@@ -91,12 +91,12 @@ rows_from u [] = u ∷ []
 rows_from u (j ∷ S) = u ∷ rows_from (bump u j) S
 
 -- The start matrix of a start order: its first row is all 0. Order 1 2 (here 0 1) gives (0,0) (1,0) (1,1).
-unfoldable pub startMatrix : ℕ → List ℕ → Matrix
-startMatrix d S = rows_from (replicate d 0) S
+unfoldable pub start_matrix : ℕ → List ℕ → Matrix
+start_matrix d S = rows_from (replicate d 0) S
 
 -- All signs start at +1.
-unfoldable pub startSigns : ℕ → List ℤ
-startSigns d = replicate d (pos 1)
+unfoldable pub start_signs : ℕ → List ℤ
+start_signs d = replicate d (pos 1)
 
 -- ---- the step
 
@@ -106,30 +106,30 @@ pub record Pair : Type 0 where
   pub y : ℕ
 
 -- The rows added for the bits r, x and y standing where they are: where a bit is 0, y grows; where it is 1, x falls.
-unfoldable pub pairsFrom : ℕ → ℕ → List ℕ → List Pair
-pairsFrom x y [] = []
-pairsFrom x y (zero ∷ r) = record { x = x; y = suc y } ∷ pairsFrom x (suc y) r
-pairsFrom x y (suc b ∷ r) = record { x = pred x; y = y } ∷ pairsFrom (pred x) y r
+unfoldable pub pairs_from : ℕ → ℕ → List ℕ → List Pair
+pairs_from x y [] = []
+pairs_from x y (zero ∷ r) = record { x = x; y = suc y } ∷ pairs_from x (suc y) r
+pairs_from x y (suc b ∷ r) = record { x = pred x; y = y } ∷ pairs_from (pred x) y r
 
 -- The additions of a step: x and y start at row h (the rules' row h+1), h being the number of ones.
 unfoldable pub additions : List ℕ → List Pair
-additions r = pairsFrom (ones r) (ones r) r
+additions r = pairs_from (ones r) (ones r) r
 
 -- New row 0 is the double of row h; each addition gives the next row. Figure 1 of the source: (2,4,2,2) (2,4,2,3) (3,4,2,3)
 -- (3,3,2,3) (3,3,3,3) with bits 1001 give (6,8,4,6) (5,8,4,6) (5,7,4,6) (5,7,5,6) (5,7,5,5).
 unfoldable pub step : Matrix → List ℕ → Matrix
-step B r = doubleRow (row B (ones r)) ∷ map (λ p. addRows (row B p.x) (row B p.y)) (additions r)
+step B r = double_row (row B (ones r)) ∷ map (λ p. add_rows (row B p.x) (row B p.y)) (additions r)
 
 -- The new order's place k: the old order's place x after falling (here pred x) where the bit is 1, and the old order's place
 -- y-1 after growing (here y before growing) where it is 0.
-unfoldable pub orderFrom : List ℕ → ℕ → ℕ → List ℕ → List ℕ
-orderFrom S x y [] = []
-orderFrom S x y (zero ∷ r) = get_or S y 0 ∷ orderFrom S x (suc y) r
-orderFrom S x y (suc b ∷ r) = get_or S (pred x) 0 ∷ orderFrom S (pred x) y r
+unfoldable pub order_from : List ℕ → ℕ → ℕ → List ℕ → List ℕ
+order_from S x y [] = []
+order_from S x y (zero ∷ r) = get_or S y 0 ∷ order_from S x (suc y) r
+order_from S x y (suc b ∷ r) = get_or S (pred x) 0 ∷ order_from S (pred x) y r
 
 -- The new order: x and y start at h, the number of ones.
-unfoldable pub stepOrder : List ℕ → List ℕ → List ℕ
-stepOrder S r = orderFrom S (ones r) (ones r) r
+unfoldable pub step_order : List ℕ → List ℕ → List ℕ
+step_order S r = order_from S (ones r) (ones r) r
 
 -- The signs with those of the columns turned that stand at a place of the (new) order where the bit is 1.
 unfoldable pub turn : List ℤ → List ℕ → List ℕ → List ℤ
@@ -139,22 +139,22 @@ turn signs (j ∷ S) (zero ∷ r) = turn signs S r
 turn signs (j ∷ S) (suc b ∷ r) = turn (set signs j (neg_ℤ (get_or signs j (pos 0)))) S r
 
 -- A step turns the signs by its new order.
-unfoldable pub stepSigns : List ℤ → List ℕ → List ℕ → List ℤ
-stepSigns signs S r = turn signs (stepOrder S r) r
+unfoldable pub step_signs : List ℤ → List ℕ → List ℕ → List ℤ
+step_signs signs S r = turn signs (step_order S r) r
 
 -- ---- many steps: r gives each step's bits by its number (the rules' step s+1 has bits r s)
 
 -- The matrix after n steps from a start order. It is the matrix before step n (the rules' step n+1).
-unfoldable pub matrixAfter : ℕ → List ℕ → (ℕ → List ℕ) → ℕ → Matrix
-matrixAfter d S r zero = startMatrix d S
-matrixAfter d S r (suc n) = step (matrixAfter d S r n) (r n)
+unfoldable pub matrix_after : ℕ → List ℕ → (ℕ → List ℕ) → ℕ → Matrix
+matrix_after d S r zero = start_matrix d S
+matrix_after d S r (suc n) = step (matrix_after d S r n) (r n)
 
 -- The order after n steps.
-unfoldable pub orderAfter : List ℕ → (ℕ → List ℕ) → ℕ → List ℕ
-orderAfter S r zero = S
-orderAfter S r (suc n) = stepOrder (orderAfter S r n) (r n)
+unfoldable pub order_after : List ℕ → (ℕ → List ℕ) → ℕ → List ℕ
+order_after S r zero = S
+order_after S r (suc n) = step_order (order_after S r n) (r n)
 
 -- The signs after n steps.
-unfoldable pub signsAfter : ℕ → List ℕ → (ℕ → List ℕ) → ℕ → List ℤ
-signsAfter d S r zero = startSigns d
-signsAfter d S r (suc n) = stepSigns (signsAfter d S r n) (orderAfter S r n) (r n)
+unfoldable pub signs_after : ℕ → List ℕ → (ℕ → List ℕ) → ℕ → List ℤ
+signs_after d S r zero = start_signs d
+signs_after d S r (suc n) = step_signs (signs_after d S r n) (order_after S r n) (r n)

@@ -17,12 +17,12 @@ words_of zero n = []
 words_of (suc k) n = n % 2 ^ 64 ∷ words_of k (n / 2 ^ 64)
 
 -- The d numbers that stand one after the other in words, k words each.
-unfoldable pub numbersOf : ℕ → ℕ → List ℕ → List ℕ
-numbersOf d k ws = tabulate d (λ j. number_of (take k (drop (j * k) ws)))
+unfoldable pub numbers_of : ℕ → ℕ → List ℕ → List ℕ
+numbers_of d k ws = tabulate d (λ j. number_of (take k (drop (j * k) ws)))
 
 -- Numbers laid out one after the other, k words each.
-unfoldable pub wordsOfAll : ℕ → List ℕ → List ℕ
-wordsOfAll k ns = flatten (map (words_of k) ns)
+unfoldable pub words_of_all : ℕ → List ℕ → List ℕ
+words_of_all k ns = flatten (map (words_of k) ns)
 
 -- ---- bits in bytes
 
@@ -42,51 +42,51 @@ byte_of bits =
     + get_or bits 4 0 * 8 + get_or bits 5 0 * 4 + get_or bits 6 0 * 2 + get_or bits 7 0
 
 -- The bytes for n bits: ceil(n / 8).
-unfoldable pub bytesFor : ℕ → ℕ
-bytesFor n = (n + 7) / 8
+unfoldable pub bytes_for : ℕ → ℕ
+bytes_for n = (n + 7) / 8
 
 -- Bits written into bytes; the filling bits of the last byte are 0.
-unfoldable pub packBits : List ℕ → List ℕ
-packBits bits = tabulate (bytesFor (length bits)) (λ q. byte_of (drop (8 * q) bits))
+unfoldable pub pack_bits : List ℕ → List ℕ
+pack_bits bits = tabulate (bytes_for (length bits)) (λ q. byte_of (drop (8 * q) bits))
 
 -- ---- the length of every buffer, for dimension d and length l
 
 -- Words of a scalar: ceil(l / 64).
-unfoldable pub scalarWords : ℕ → ℕ
-scalarWords l = (l + 63) / 64
+unfoldable pub scalar_words : ℕ → ℕ
+scalar_words l = (l + 63) / 64
 
 -- Words of a decoded value: floor(l / 64) + 1, because an entry of a row can be 2^l.
-unfoldable pub valueWords : ℕ → ℕ
-valueWords l = l / 64 + 1
+unfoldable pub value_words : ℕ → ℕ
+value_words l = l / 64 + 1
 
 -- The words of d scalars.
-unfoldable pub scalarsLength : ℕ → ℕ → ℕ
-scalarsLength d l = d * scalarWords l
+unfoldable pub scalars_length : ℕ → ℕ → ℕ
+scalars_length d l = d * scalar_words l
 
 -- The words of d decoded values.
-unfoldable pub valuesLength : ℕ → ℕ → ℕ
-valuesLength d l = d * valueWords l
+unfoldable pub values_length : ℕ → ℕ → ℕ
+values_length d l = d * value_words l
 
 -- The bytes of a start order.
-unfoldable pub startLength : ℕ → ℕ
-startLength d = d
+unfoldable pub start_length : ℕ → ℕ
+start_length d = d
 
 -- The words of the elements.
-unfoldable pub elementsLength : ℕ → ℕ
-elementsLength d = d
+unfoldable pub elements_length : ℕ → ℕ
+elements_length d = d
 
 -- The words of the registers.
-unfoldable pub registersLength : ℕ → ℕ
-registersLength d = d + 1
+unfoldable pub registers_length : ℕ → ℕ
+registers_length d = d + 1
 
 -- The bytes of a plan's bits: ceil(l * d / 8).
-unfoldable pub bitsLength : ℕ → ℕ → ℕ
-bitsLength d l = bytesFor (l * d)
+unfoldable pub bits_length : ℕ → ℕ → ℕ
+bits_length d l = bytes_for (l * d)
 
 -- The bytes of a trace: l * (d + 1) * (d + 2), at most 51,840.
-unfoldable pub traceLength : ℕ → ℕ → ℕ
-traceLength d l = l * (d + 1) * (d + 2)
+unfoldable pub trace_length : ℕ → ℕ → ℕ
+trace_length d l = l * (d + 1) * (d + 2)
 
 -- The bytes of a buffer for a listing: the longest text, of d 8, l 576 and entries of 2^576.
-unfoldable pub longestText : ℕ
-longestText = 8589
+unfoldable pub longest_text : ℕ
+longest_text = 8589

@@ -3,10 +3,10 @@
 -- Assumes nothing.
 use Rattle.std.specs.Prelude.{ℕ, zero, suc, ◌+◌, ◌^◌, Bool, true, false, cond, ◌&&◌, List, [], ◌∷◌, eqb, leb, ltb, ℤ, pos, negsuc, length, get_or, take, drop}
 use Rattle.ladder.specs.Lists.{tabulate, count, all}
-use Rattle.ladder.specs.Numbers.{numbersOf, scalarWords, scalarsLength, valuesLength, startLength, elementsLength, registersLength, bitsLength, traceLength, longestText}
+use Rattle.ladder.specs.Numbers.{numbers_of, scalar_words, scalars_length, values_length, start_length, elements_length, registers_length, bits_length, trace_length, longest_text}
 use Rattle.ladder.specs.Plan.{Plan}
 use Rattle.ladder.specs.Walk.{Walk}
-use Rattle.ladder.specs.PlanFile.{mark, trailerSize, bodyLength, fileLength, dIn, lIn, distanceIn, markIn, planIn}
+use Rattle.ladder.specs.PlanFile.{mark, trailer_size, body_length, file_length, d_in, l_in, distance_in, mark_in, plan_in}
 
 -- ---- tests and their order
 
@@ -76,25 +76,25 @@ unfoldable pub shape : List ℕ → ℕ → ℕ
 shape buffer n = unless (eqb (length buffer) n) SHAPE
 
 -- .. or a step's bit number is 2^d or more.
-unfoldable pub stepShape : ℕ → ℕ → ℕ
-stepShape d n = unless (ltb n (2 ^ d)) SHAPE
+unfoldable pub step_shape : ℕ → ℕ → ℕ
+step_shape d n = unless (ltb n (2 ^ d)) SHAPE
 
 -- 4 SCALAR: a scalar is 2^l or more.
 unfoldable pub scalar : ℕ → List ℕ → ℕ
 scalar l ks = unless (all (λ k. ltb k (2 ^ l)) ks) SCALAR
 
 -- Each of 1..n occurs once.
-unfoldable pub eachOnce : ℕ → List ℕ → Bool
-eachOnce zero S = true
-eachOnce (suc n) S = eqb (count (suc n) S) 1 && eachOnce n S
+unfoldable pub each_once : ℕ → List ℕ → Bool
+each_once zero S = true
+each_once (suc n) S = eqb (count (suc n) S) 1 && each_once n S
 
 -- An arrangement of 1..d: d numbers, each from 1 to d, and each of 1..d once.
-unfoldable pub isArrangement : ℕ → List ℕ → Bool
-isArrangement d S = eqb (length S) d && all (within 1 d) S && eachOnce d S
+unfoldable pub is_arrangement : ℕ → List ℕ → Bool
+is_arrangement d S = eqb (length S) d && all (within 1 d) S && each_once d S
 
 -- 5 ORDER: the order isn't an arrangement of 1..d ..
 unfoldable pub order : ℕ → List ℕ → ℕ
-order d S = unless (isArrangement d S) ORDER
+order d S = unless (is_arrangement d S) ORDER
 
 -- 1 or -1.
 unfoldable pub is_unit : ℤ → Bool
@@ -107,14 +107,14 @@ is_zero (pos n) = eqb n 0
 is_zero (negsuc n) = false
 
 -- The first d signs of a list, 0 for each that the list lacks, are 1 or -1.
-unfoldable pub allUnits : ℕ → List ℤ → Bool
-allUnits d signs = all is_unit (tabulate d (λ j. get_or signs j (pos 0)))
+unfoldable pub all_units : ℕ → List ℤ → Bool
+all_units d signs = all is_unit (tabulate d (λ j. get_or signs j (pos 0)))
 
 -- .. in a walk state also a sign other than 1 and -1 at a place 1..d, or a non-zero order or sign past place d.
-unfoldable pub walkOrder : Walk → ℕ
-walkOrder w =
+unfoldable pub walk_order : Walk → ℕ
+walk_order w =
     unless
-    (isArrangement w.d (take w.d w.order) && allUnits w.d w.signs
+    (is_arrangement w.d (take w.d w.order) && all_units w.d w.signs
     && all (eqb 0) (drop w.d w.order) && all is_zero (drop w.d w.signs))
     ORDER
 
@@ -123,8 +123,8 @@ unfoldable pub answer : ℕ → ℕ → ℕ
 answer d n = unless (within 1 (suc d) n) ROW
 
 -- 7 MODULUS: above 2^63.
-unfoldable pub tooLarge : ℕ → ℕ
-tooLarge m = unless (leb m (2 ^ 63)) MODULUS
+unfoldable pub too_large : ℕ → ℕ
+too_large m = unless (leb m (2 ^ 63)) MODULUS
 
 -- 8 ELEMENT: an element not below a modulus other than 0.
 unfoldable pub element : ℕ → List ℕ → ℕ
@@ -140,13 +140,13 @@ same_numbers (a ∷ rest) (b ∷ bs) = eqb a b && same_numbers rest bs
 
 -- 9 TRAILER: plan file shorter than 12 bytes, wrong mark ..
 unfoldable pub trailer : List ℕ → ℕ
-trailer file = unless (leb trailerSize (length file) && same_numbers (markIn file) mark) TRAILER
+trailer file = unless (leb trailer_size (length file) && same_numbers (mark_in file) mark) TRAILER
 
 -- .. or a back distance that isn't the body's, or that is more than the bytes before the trailer.
 unfoldable pub distance : List ℕ → ℕ
 distance file =
     unless
-    (eqb (distanceIn file) (bodyLength (dIn file) (lIn file)) && leb (distanceIn file + trailerSize) (length file))
+    (eqb (distance_in file) (body_length (d_in file) (l_in file)) && leb (distance_in file + trailer_size) (length file))
     TRAILER
 
 -- 10 BIG: more than 4,096 bytes of input.
@@ -156,68 +156,68 @@ big file = unless (leb (length file) 4096) BIG
 -- ---- each operation
 
 -- What a plan that is read must be past its shapes, whether it is lent or stands in a file: 5, 6.
-unfoldable pub readRefusal : Plan → ℕ
-readRefusal p = order p.d p.start then answer p.d p.answer
+unfoldable pub read_refusal : Plan → ℕ
+read_refusal p = order p.d p.start then answer p.d p.answer
 
 -- A plan that is read: 1, 2, then what stands at number 3, which is handed in, then 5, 6.
-unfoldable pub planRefusal : Plan → ℕ → ℕ
-planRefusal p shapes = dim p.d then len p.l then shapes then readRefusal p
+unfoldable pub plan_refusal : Plan → ℕ → ℕ
+plan_refusal p shapes = dim p.d then len p.l then shapes then read_refusal p
 
 -- The shape of a plan's own buffers.
-unfoldable pub planShape : Plan → ℕ
-planShape p = shape p.start (startLength p.d) then shape p.bits (bitsLength p.d p.l)
+unfoldable pub plan_shape : Plan → ℕ
+plan_shape p = shape p.start (start_length p.d) then shape p.bits (bits_length p.d p.l)
 
 -- A loose plan, lent as a start order and bits: 1, 2, 3, 5, 6. Number 3 covers these and, handed in, the call's other buffers.
-unfoldable pub looseRefusal : Plan → ℕ → ℕ
-looseRefusal p others = planRefusal p (planShape p then others)
+unfoldable pub loose_refusal : Plan → ℕ → ℕ
+loose_refusal p others = plan_refusal p (plan_shape p then others)
 
 -- The d scalars in lent words.
-unfoldable pub scalarsIn : ℕ → ℕ → List ℕ → List ℕ
-scalarsIn d l ws = numbersOf d (scalarWords l) ws
+unfoldable pub scalars_in : ℕ → ℕ → List ℕ → List ℕ
+scalars_in d l ws = numbers_of d (scalar_words l) ws
 
 -- Encode: 1, 2, 3, 4.
-unfoldable pub encodeRefusal : ℕ → ℕ → List ℕ → List ℕ → List ℕ → ℕ
-encodeRefusal d l scalars start bits =
+unfoldable pub encode_refusal : ℕ → ℕ → List ℕ → List ℕ → List ℕ → ℕ
+encode_refusal d l scalars start bits =
     dim d then len l
-    then (shape scalars (scalarsLength d l) then shape start (startLength d) then shape bits (bitsLength d l))
-    then scalar l (scalarsIn d l scalars)
+    then (shape scalars (scalars_length d l) then shape start (start_length d) then shape bits (bits_length d l))
+    then scalar l (scalars_in d l scalars)
 
 -- Decode: 1, 2, 3, 5, 6.
-unfoldable pub decodeRefusal : Plan → List ℕ → ℕ
-decodeRefusal p values = looseRefusal p (shape values (valuesLength p.d p.l))
+unfoldable pub decode_refusal : Plan → List ℕ → ℕ
+decode_refusal p values = loose_refusal p (shape values (values_length p.d p.l))
 
 -- Check: 1, 2, 3, 5, 6, 4.
-unfoldable pub checkRefusal : Plan → List ℕ → ℕ
-checkRefusal p scalars =
-    looseRefusal p (shape scalars (scalarsLength p.d p.l))
-    then scalar p.l (scalarsIn p.d p.l scalars)
+unfoldable pub check_refusal : Plan → List ℕ → ℕ
+check_refusal p scalars =
+    loose_refusal p (shape scalars (scalars_length p.d p.l))
+    then scalar p.l (scalars_in p.d p.l scalars)
 
 -- Step: 1, 5, 3.
-unfoldable pub stepRefusal : Walk → ℕ → ℕ
-stepRefusal w n = dim w.d then walkOrder w then stepShape w.d n
+unfoldable pub step_refusal : Walk → ℕ → ℕ
+step_refusal w n = dim w.d then walk_order w then step_shape w.d n
 
 -- Trace: 1, 2, 3, 5, 6.
-unfoldable pub traceRefusal : Plan → List ℕ → ℕ
-traceRefusal p trace = looseRefusal p (shape trace (traceLength p.d p.l))
+unfoldable pub trace_refusal : Plan → List ℕ → ℕ
+trace_refusal p trace = loose_refusal p (shape trace (trace_length p.d p.l))
 
 -- Plain run and difference run: 1, 2, 3, 5, 6, 7, 8.
-unfoldable pub runRefusal : Plan → ℕ → List ℕ → List ℕ → ℕ
-runRefusal p m elements registers =
-    looseRefusal p (shape elements (elementsLength p.d) then shape registers (registersLength p.d))
-    then tooLarge m then element m elements
+unfoldable pub run_refusal : Plan → ℕ → List ℕ → List ℕ → ℕ
+run_refusal p m elements registers =
+    loose_refusal p (shape elements (elements_length p.d) then shape registers (registers_length p.d))
+    then too_large m then element m elements
 
 -- Pack: 1, 2, 3, 5, 6.
-unfoldable pub packRefusal : Plan → List ℕ → ℕ
-packRefusal p file = looseRefusal p (shape file (fileLength p.d p.l))
+unfoldable pub pack_refusal : Plan → List ℕ → ℕ
+pack_refusal p file = loose_refusal p (shape file (file_length p.d p.l))
 
 -- Unpack: 9 for short or mark; 1; 2; 9 for the distance; 5; 6. Where a loose plan has number 3, a file has its distance.
-unfoldable pub unpackRefusal : List ℕ → ℕ
-unpackRefusal file = trailer file then planRefusal (planIn file) (distance file)
+unfoldable pub unpack_refusal : List ℕ → ℕ
+unpack_refusal file = trailer file then plan_refusal (plan_in file) (distance file)
 
 -- The listing program: 10, then as unpack.
-unfoldable pub listRefusal : List ℕ → ℕ
-listRefusal file = big file then unpackRefusal file
+unfoldable pub list_refusal : List ℕ → ℕ
+list_refusal file = big file then unpack_refusal file
 
 -- The call that lists into a lent buffer: 10, 3, then as unpack.
-unfoldable pub listingRefusal : List ℕ → List ℕ → ℕ
-listingRefusal file text = big file then shape text longestText then unpackRefusal file
+unfoldable pub listing_refusal : List ℕ → List ℕ → ℕ
+listing_refusal file text = big file then shape text longest_text then unpack_refusal file

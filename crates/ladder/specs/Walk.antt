@@ -2,7 +2,7 @@
 -- Assumes nothing.
 use Rattle.std.specs.Prelude.{ℕ, suc, pred, ◌-◌, ◌/◌, ◌%◌, ◌^◌, List, ◌++◌, map, ℤ, pos, take, replicate}
 use Rattle.ladder.specs.Lists.{tabulate}
-use Rattle.ladder.specs.Matrix.{stepOrder, stepSigns}
+use Rattle.ladder.specs.Matrix.{step_order, step_signs}
 
 -- A walk state: d; the order, columns counted from 1, in eight places; eight signs, sign j that of column j. Past d all are 0.
 pub record Walk : Type 0 where
@@ -27,10 +27,10 @@ unfoldable pub order_of : Walk → List ℕ
 order_of w = map pred (take w.d w.order)
 
 -- .. and the signs.
-unfoldable pub walkSigns : Walk → List ℤ
-walkSigns w = take w.d w.signs
+unfoldable pub walk_signs : Walk → List ℤ
+walk_signs w = take w.d w.signs
 
 -- The state after one step with the bits that n stands for.
-unfoldable pub stepWalk : Walk → ℕ → Walk
-stepWalk w n =
-    walk_of w.d (stepOrder (order_of w) (bits_of w.d n)) (stepSigns (walkSigns w) (order_of w) (bits_of w.d n))
+unfoldable pub step_walk : Walk → ℕ → Walk
+step_walk w n =
+    walk_of w.d (step_order (order_of w) (bits_of w.d n)) (step_signs (walk_signs w) (order_of w) (bits_of w.d n))

@@ -16,12 +16,12 @@ pub record Copying (source : List ℕ) (at : ℕ) (start out : List ℕ) (i : �
   pub done : sets out (at + i) (drop i source) ≡ sets start at source
 
 module _ (source : List ℕ) (at : ℕ) (start : List ℕ) where
-  pub copying-start : Copying source at start start 0
-  copying-start = record { within = omega arith; long = refl; done = ap (λ k. sets start k source) (add-zero at) }
+  pub copying_start : Copying source at start start 0
+  copying_start = record { within = omega arith; long = refl; done = ap (λ k. sets start k source) (add-zero at) }
 
   module _ {out : List ℕ} {i : ℕ} (w : Copying source at start out i) where
-    pub copying-next : i < length source → Copying source at start (set out (at + i) (get_or source i 0)) (i + 1)
-    copying-next h =
+    pub copying_next : i < length source → Copying source at start (set out (at + i) (get_or source i 0)) (i + 1)
+    copying_next h =
         let next : at + suc i ≡ suc (at + i) = omega arith in
         record {
           within = omega arith;
@@ -29,5 +29,5 @@ module _ (source : List ℕ) (at : ℕ) (start : List ℕ) where
           done = rw (add-one i, next) (sym (ap (sets out (at + i)) (drop-cons source i 0 h)) ∙ w.done);
         }
 
-    pub copying-end : length source ≤ i → out ≡ sets start at source
-    copying-end h = sym (ap (sets out (at + i)) (drop_of_length-le source h)) ∙ w.done
+    pub copying_end : length source ≤ i → out ≡ sets start at source
+    copying_end h = sym (ap (sets out (at + i)) (drop_of_length-le source h)) ∙ w.done

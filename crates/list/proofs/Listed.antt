@@ -8,80 +8,80 @@ use native.Mathlib.Nat.{zero-add}
 use native.Mathlib.Omega.{arith}
 use lib.ListN.{length, take, drop, length-append}
 use lib.Seq.{sets-eq, take_at}
-use Rattle.ladder.specs.Numbers.{longestText}
-use Rattle.ladder.specs.PlanFile.{planIn}
-use Rattle.ladder.specs.Refusals.{◌then◌, big, unpackRefusal, listRefusal, listingRefusal}
-use Rattle.ladder.specs.Listing.{refusedText, planText, listingText}
-use Rattle.ladder.proofs.Tests.{then_next, refusing-no, refusing-yes}
-use Rattle.ladder.proofs.Refusals.{shape-none}
-use Rattle.ladder.proofs.Texts.{list-refusal-small, listing-fits}
+use Rattle.ladder.specs.Numbers.{longest_text}
+use Rattle.ladder.specs.PlanFile.{plan_in}
+use Rattle.ladder.specs.Refusals.{◌then◌, big, unpack_refusal, list_refusal, listing_refusal}
+use Rattle.ladder.specs.Listing.{refused_text, plan_text, listing_text}
+use Rattle.ladder.proofs.Tests.{then_next, refusing_no, refusing_yes}
+use Rattle.ladder.proofs.Refusals.{shape_none}
+use Rattle.ladder.proofs.Texts.{list_refusal_small, listing_fits}
 use Rattle.listing.specs.declared.call.Listed.{Listed}
 use Rattle.listing.specs.Promise.{ListingPromise}
-use Rattle.listing.proofs.Promised.{listing-refused}
+use Rattle.listing.proofs.Promised.{listing_refused}
 use Rattle.text.specs.Inner.{Fits, Put}
 use Rattle.list.specs.Promise.{Written}
 
-module _ {file text : List ℕ} {r : Listed} {after : List ℕ} (promise : ListingPromise file text r after) (room : length text ≡ longestText) where
+module _ {file text : List ℕ} {r : Listed} {after : List ℕ} (promise : ListingPromise file text r after) (room : length text ≡ longest_text) where
   -- The buffer being right, the number is the program's ..
-  number_is : r.refusal ≡ listRefusal file
-  unfolding listingRefusal listRefusal
-  number_is = promise.refusal_is ∙ ap (λ n. big file then n) (then_next _ (unpackRefusal file) ((shape-none text longestText).1 room))
+  number_is : r.refusal ≡ list_refusal file
+  unfolding listing_refusal list_refusal
+  number_is = promise.refusal_is ∙ ap (λ n. big file then n) (then_next _ (unpack_refusal file) ((shape_none text longest_text).1 room))
 
   module _ (some : r.refusal ≢ 0) where
-    line-is : refusedText r.refusal ≡ listingText file
-    unfolding listingText
-    line-is = ap refusedText number_is ∙ sym (refusing-yes (listRefusal file) _ _ (λ z. some (number_is ∙ z)))
+    line-is : refused_text r.refusal ≡ listing_text file
+    unfolding listing_text
+    line-is = ap refused_text number_is ∙ sym (refusing_yes (list_refusal file) _ _ (λ z. some (number_is ∙ z)))
 
     -- .. it is small, and its line fits ..
-    pub line-fits : (r.refusal < 1000) × Fits after 0 (refusedText r.refusal)
-    line-fits = (
-      omega (arith, number_is, list-refusal-small file),
-      omega (arith, ap length line-is, listing-fits file, room, ap length (listing-refused promise some).1),
+    pub line_fits : (r.refusal < 1000) × Fits after 0 (refused_text r.refusal)
+    line_fits = (
+      omega (arith, number_is, list_refusal_small file),
+      omega (arith, ap length line-is, listing_fits file, room, ap length (listing_refused promise some).1),
     )
 
     -- .. and is what is written.
-    pub line-written : {textAfter : List ℕ} {next : ℕ} → Put after 0 (refusedText r.refusal) textAfter next → Written file text next textAfter
-    line-written put = record {
+    pub line_written : {textAfter : List ℕ} {next : ℕ} → Put after 0 (refused_text r.refusal) textAfter next → Written file text next textAfter
+    line_written put = record {
       size_is = put.place ∙ zero-add _ ∙ ap length line-is;
-      text-is =
+      text_is =
           put.wrote
-          ∙ rw (line-is, (listing-refused promise some).1)
-          (sets-eq (listingText file) text 0 (omega (arith, listing-fits file, room)) ∙ rw (zero-add (length (listingText file))));
+          ∙ rw (line-is, (listing_refused promise some).1)
+          (sets-eq (listing_text file) text 0 (omega (arith, listing_fits file, room)) ∙ rw (zero-add (length (listing_text file))));
     }
 
   -- Where nothing is refused, the plan's lines are.
-  pub lines-written : r.refusal ≡ 0 → Written file text r.length after
-  unfolding listingText
-  lines-written none =
-      let same : planText (planIn file) ≡ listingText file = sym (refusing-no (listRefusal file) _ _ (sym number_is ∙ none)) in
+  pub lines_written : r.refusal ≡ 0 → Written file text r.length after
+  unfolding listing_text
+  lines_written none =
+      let same : plan_text (plan_in file) ≡ listing_text file = sym (refusing_no (list_refusal file) _ _ (sym number_is ∙ none)) in
       record {
-        size_is = promise.length-is ∙ refusing-no _ _ _ none ∙ ap length same;
-        text-is = promise.text-is ∙ refusing-no _ _ _ none ∙ ap (λ lines. lines ++ drop (length lines) text) same;
+        size_is = promise.length_is ∙ refusing_no _ _ _ none ∙ ap length same;
+        text_is = promise.text_is ∙ refusing_no _ _ _ none ∙ ap (λ lines. lines ++ drop (length lines) text) same;
       }
 
 -- ---- what follows of what is written
 
 -- No second size or text fits.
-pub written-unique : {file text : List ℕ} {m n : ℕ} {after other : List ℕ} → Written file text m after → Written file text n other
+pub written_unique : {file text : List ℕ} {m n : ℕ} {after other : List ℕ} → Written file text m after → Written file text n other
     → (m ≡ n) × (after ≡ other)
-written-unique x y = (x.size_is ∙ sym y.size_is, x.text-is ∙ sym y.text-is)
+written_unique x y = (x.size_is ∙ sym y.size_is, x.text_is ∙ sym y.text_is)
 
 module _ {file text : List ℕ} {size : ℕ} {after : List ℕ} (w : Written file text size after) where
   -- The listing stands at the buffer's start: ..
-  pub written-text : take size after ≡ listingText file
-  written-text = ap (take size) w.text-is ∙ take_at (listingText file) _ size (sym w.size_is)
+  pub written_text : take size after ≡ listing_text file
+  written_text = ap (take size) w.text_is ∙ take_at (listing_text file) _ size (sym w.size_is)
 
   -- .. of a file that is not refused the lines of its plan ..
-  pub written-plan : listRefusal file ≡ 0 → take size after ≡ planText (planIn file)
-  unfolding listingText
-  written-plan none = written-text ∙ refusing-no (listRefusal file) _ _ none
+  pub written_plan : list_refusal file ≡ 0 → take size after ≡ plan_text (plan_in file)
+  unfolding listing_text
+  written_plan none = written_text ∙ refusing_no (list_refusal file) _ _ none
 
   -- .. and of any other the line of its number.
-  pub written-number : listRefusal file ≢ 0 → take size after ≡ refusedText (listRefusal file)
-  unfolding listingText
-  written-number some = written-text ∙ refusing-yes (listRefusal file) _ _ some
+  pub written_number : list_refusal file ≢ 0 → take size after ≡ refused_text (list_refusal file)
+  unfolding listing_text
+  written_number some = written_text ∙ refusing_yes (list_refusal file) _ _ some
 
 -- What is written lies within the buffer.
-pub written-inside : {file text : List ℕ} {size : ℕ} {textAfter : List ℕ} → Written file text size textAfter → size ≤ length textAfter
-written-inside {file} {text} w =
-    omega (arith, w.size_is, ap length w.text-is, length-append (listingText file) (drop (length (listingText file)) text))
+pub written_inside : {file text : List ℕ} {size : ℕ} {textAfter : List ℕ} → Written file text size textAfter → size ≤ length textAfter
+written_inside {file} {text} w =
+    omega (arith, w.size_is, ap length w.text_is, length-append (listing_text file) (drop (length (listing_text file)) text))

@@ -8,19 +8,19 @@ use native.Mathlib.Numerals.{add-one}
 use native.Mathlib.Omega.{arith}
 use lib.ListN.{length, get_or, take, drop, set, length-set, length-map}
 use lib.Seq.{append_snoc, take_all, take-suc-set}
-use Rattle.registers.proofs.ByModulus.{modulus-positive, below-modulus}
+use Rattle.registers.proofs.ByModulus.{modulus_positive, below_modulus}
 use Rattle.ladder.specs.Lists.{ones}
-use Rattle.ladder.specs.Matrix.{Pair, Matrix, matrixAfter, pairsFrom, additions}
+use Rattle.ladder.specs.Matrix.{Pair, Matrix, matrix_after, pairs_from, additions}
 use Rattle.ladder.specs.Numbers.{bits_at}
-use Rattle.ladder.specs.Registers.{modulus, plainRule, stepRegisters, registersAfter}
+use Rattle.ladder.specs.Registers.{modulus, plain_rule, step_registers, registers_after}
 use Rattle.ladder.specs.Trace.{operations}
 use Rattle.ladder.specs.Walk.{bits_of}
 use Rattle.ladder.proofs.Step.{length-additions}
-use Rattle.ladder.proofs.Walk.{length-bitsOf}
+use Rattle.ladder.proofs.Walk.{length-bits_of}
 use Rattle.bits.specs.ReadBits.{ReadBits}
 use Rattle.bits.proofs.Additions.{pairs_next}
-use Rattle.bits.proofs.StepBits.{bit_below, bits_left, no-bits-left, ones-left, ones-room}
-use Rattle.plain.specs.Inner.{PlainStep, PlainSteps, plainSum}
+use Rattle.bits.proofs.StepBits.{bit_below, bits_left, no_bits_left, ones_left, ones_room}
+use Rattle.plain.specs.Inner.{PlainStep, PlainSteps, plain_sum}
 
 -- ---- one step
 
@@ -29,60 +29,60 @@ pub record Summing (m d n : ℕ) (old new : List ℕ) (x k : ℕ) : Type 0 where
   pub within : k ≤ d
   pub left : x ≡ ones (drop k (bits_of d n))
   pub rows : length new ≡ suc d
-  pub done : take (suc k) new ++ map (plainSum m old) (pairsFrom x (x + k) (drop k (bits_of d n)))
-      ≡ map (plainSum m old) (operations (bits_of d n))
+  pub done : take (suc k) new ++ map (plain_sum m old) (pairs_from x (x + k) (drop k (bits_of d n)))
+      ≡ map (plain_sum m old) (operations (bits_of d n))
 
 module _ {m d : ℕ} {old : List ℕ} (asks : PlainStep m d old) (n : ℕ) where
   abbrev made : Pair → ℕ
-  made = plainSum m old
+  made = plain_sum m old
 
   -- The sum of two old registers that there are.
   made_at : (x y : ℕ) → x ≤ d → y ≤ d → made (record { x = x; y = y }) ≡ (get_or old x 0 + get_or old y 0) % modulus m
-  unfolding plainSum
+  unfolding plain_sum
   made_at x y h k = refl
 
   -- The row that is doubled is a row, and its register an element.
-  pub doubled-room : (x : ℕ) → x ≡ ones (bits_of d n) → (x ≤ d) × (get_or old x 0 < modulus m)
-  doubled-room x e =
-      let h : x ≤ d = omega (arith, ones-room d n 0 (omega arith)) in
+  pub doubled_room : (x : ℕ) → x ≡ ones (bits_of d n) → (x ≤ d) × (get_or old x 0 < modulus m)
+  doubled_room x e =
+      let h : x ≤ d = omega (arith, ones_room d n 0 (omega arith)) in
       (h, asks.below x (omega arith))
 
   pub summing_start : (before : List ℕ) → length before ≡ suc d → (x : ℕ) → x ≡ ones (bits_of d n)
       → (a : ℕ) → a ≡ (get_or old x 0 + get_or old x 0) % modulus m → Summing m d n old (set before 0 a) x 0
   unfolding operations additions
   summing_start before rows x e a f =
-      let h = (doubled-room x e).0 in
+      let h = (doubled_room x e).0 in
       record {
         within = omega arith;
         left = e;
         rows = length-set before 0 a ∙ rows;
         done =
-            ap (λ t. t ++ map made (pairsFrom x (x + 0) (bits_of d n))) (take-suc-set before 0 a (omega arith))
-            ∙ ap (λ b. b ∷ map made (pairsFrom x (x + 0) (bits_of d n))) (f ∙ sym (made_at x x h h))
-            ∙ ap₂ (λ i j. made (record { x = i; y = i }) ∷ map made (pairsFrom i j (bits_of d n))) e (add-zero x ∙ e);
+            ap (λ t. t ++ map made (pairs_from x (x + 0) (bits_of d n))) (take-suc-set before 0 a (omega arith))
+            ∙ ap (λ b. b ∷ map made (pairs_from x (x + 0) (bits_of d n))) (f ∙ sym (made_at x x h h))
+            ∙ ap₂ (λ i j. made (record { x = i; y = i }) ∷ map made (pairs_from i j (bits_of d n))) e (add-zero x ∙ e);
       }
 
   module _ {new : List ℕ} {x k : ℕ} (s : Summing m d n old new x k) (h : k < d) where
     -- Bit k is among the ones that are left, and row y stays inside.
-    pub summing-room : (get_or (bits_of d n) k 0 ≤ x) × (x + k < d + get_or (bits_of d n) k 0)
-    summing-room =
-        let left = ones-left d n k h in
-        let room = ones-room d n (k + 1) (omega arith) in
+    pub summing_room : (get_or (bits_of d n) k 0 ≤ x) × (x + k < d + get_or (bits_of d n) k 0)
+    summing_room =
+        let left = ones_left d n k h in
+        let room = ones_room d n (k + 1) (omega arith) in
         (omega (arith, s.left), omega (arith, s.left))
 
     -- One addition more.
-    pub summing-next : (x' : ℕ) → x ≡ get_or (bits_of d n) k 0 + x'
+    pub summing_next : (x' : ℕ) → x ≡ get_or (bits_of d n) k 0 + x'
         → (a : ℕ) → a ≡ (get_or old x' 0 + get_or old (x' + (k + 1)) 0) % modulus m
         → Summing m d n old (set new (k + 1) a) x' (k + 1)
-    summing-next x' e a f =
+    summing_next x' e a f =
         let b = get_or (bits_of d n) k 0 in
-        let later = pairsFrom x' (x' + suc k) (drop (suc k) (bits_of d n)) in
+        let later = pairs_from x' (x' + suc k) (drop (suc k) (bits_of d n)) in
         let sum : a ≡ made (record { x = x'; y = x' + suc k }) =
         f ∙ ap (λ i. (get_or old x' 0 + get_or old (x' + i) 0) % modulus m) (add-one k)
-        ∙ sym (made_at x' (x' + suc k) (omega (arith, summing-room)) (omega (arith, summing-room))) in
+        ∙ sym (made_at x' (x' + suc k) (omega (arith, summing_room)) (omega (arith, summing_room))) in
         record {
           within = omega arith;
-          left = omega (arith, s.left, ones-left d n k h);
+          left = omega (arith, s.left, ones_left d n k h);
           rows = length-set new (k + 1) a ∙ s.rows;
           done =
               rw (add-one k)
@@ -90,33 +90,33 @@ module _ {m d : ℕ} {old : List ℕ} (asks : PlainStep m d old) (n : ℕ) where
               ∙ append_snoc (take (suc k) new) a (map made later)
               ∙ ap (λ c. take (suc k) new ++ (c ∷ map made later)) sum
               ∙ sym (ap (λ ps. take (suc k) new ++ map made ps)
-              (ap (pairsFrom x (x + k)) (bits_left d n k h)
+              (ap (pairs_from x (x + k)) (bits_left d n k h)
               ∙ pairs_next b x x' k (drop (suc k) (bits_of d n)) (bit_below d n k) e))
               ∙ s.done);
         }
 
   -- No addition left.
-  pub summing-end : {new : List ℕ} {x k : ℕ} → Summing m d n old new x k → d ≤ k
-      → new ≡ map (plainSum m old) (operations (bits_of d n))
-  unfolding pairsFrom
-  summing-end {new} {x} {k} s h =
+  pub summing_end : {new : List ℕ} {x k : ℕ} → Summing m d n old new x k → d ≤ k
+      → new ≡ map (plain_sum m old) (operations (bits_of d n))
+  unfolding pairs_from
+  summing_end {new} {x} {k} s h =
       sym (take_all (suc k) new (omega (arith, s.rows, s.within)))
       ∙ sym (append-nil (take (suc k) new))
-      ∙ sym (ap (λ r. take (suc k) new ++ map made (pairsFrom x (x + k) r)) (no-bits-left d n k h))
+      ∙ sym (ap (λ r. take (suc k) new ++ map made (pairs_from x (x + k) r)) (no_bits_left d n k h))
       ∙ s.done
 
 -- The sums of a step's operations are its registers, whatever the matrix.
-pub sums-are-registers : (m d : ℕ) (B : Matrix) (regs r : List ℕ)
-    → map (plainSum m regs) (operations r) ≡ stepRegisters (plainRule m) d B regs r
-unfolding plainSum operations stepRegisters plainRule
-sums-are-registers m d B regs r = refl
+pub sums_are_registers : (m d : ℕ) (B : Matrix) (regs r : List ℕ)
+    → map (plain_sum m regs) (operations r) ≡ step_registers (plain_rule m) d B regs r
+unfolding plain_sum operations step_registers plain_rule
+sums_are_registers m d B regs r = refl
 
 -- Each is an element.
-sums-below : (m : ℕ) (regs : List ℕ) (pairs : List Pair) (i : ℕ) → get_or (map (plainSum m regs) pairs) i 0 < modulus m
-unfolding plainSum
-sums-below m regs [] i = modulus-positive m
-sums-below m regs (p ∷ pairs) zero = below-modulus m _
-sums-below m regs (p ∷ pairs) (suc i) = sums-below m regs pairs i
+sums_below : (m : ℕ) (regs : List ℕ) (pairs : List Pair) (i : ℕ) → get_or (map (plain_sum m regs) pairs) i 0 < modulus m
+unfolding plain_sum
+sums_below m regs [] i = modulus_positive m
+sums_below m regs (p ∷ pairs) zero = below_modulus m _
+sums_below m regs (p ∷ pairs) (suc i) = sums_below m regs pairs i
 
 -- ---- all steps
 
@@ -124,40 +124,40 @@ sums-below m regs (p ∷ pairs) (suc i) = sums-below m regs pairs i
 pub record PlainRunning (m d l : ℕ) (bytes start regs : List ℕ) (s : ℕ) : Type 0 where
   pub within : s ≤ l
   pub step : PlainStep m d regs
-  pub done : (S : List ℕ) → regs ≡ registersAfter (plainRule m) d S (bits_at d bytes) start s
+  pub done : (S : List ℕ) → regs ≡ registers_after (plain_rule m) d S (bits_at d bytes) start s
 
-pub running-start : {m d l : ℕ} {bytes start : List ℕ} → PlainSteps m d l bytes start → PlainRunning m d l bytes start start 0
-unfolding registersAfter
-running-start asks = record { within = omega arith; step = asks.step; done = λ S. refl }
+pub running_start : {m d l : ℕ} {bytes start : List ℕ} → PlainSteps m d l bytes start → PlainRunning m d l bytes start start 0
+unfolding registers_after
+running_start asks = record { within = omega arith; step = asks.step; done = λ S. refl }
 
 -- A step's registers can be stepped again.
 pub stepped : {m d : ℕ} {regs : List ℕ} → PlainStep m d regs → (n : ℕ) (next : List ℕ)
-    → next ≡ map (plainSum m regs) (operations (bits_of d n)) → PlainStep m d next
+    → next ≡ map (plain_sum m regs) (operations (bits_of d n)) → PlainStep m d next
 unfolding operations additions
 stepped {m} {d} {regs} asks n next made = rw made record {
-  dHigh = asks.dHigh;
-  mHigh = asks.mHigh;
-  rows = length-map (operations (bits_of d n)) (plainSum m regs) ∙ ap suc (length-additions (bits_of d n) ∙ length-bitsOf d n);
-  below = λ i h. sums-below m regs (operations (bits_of d n)) i;
+  d_high = asks.d_high;
+  m_high = asks.m_high;
+  rows = length-map (operations (bits_of d n)) (plain_sum m regs) ∙ ap suc (length-additions (bits_of d n) ∙ length-bits_of d n);
+  below = λ i h. sums_below m regs (operations (bits_of d n)) i;
 }
 
 -- One step more.
-pub running-next : {m d l : ℕ} {bytes start regs : List ℕ} {s : ℕ} → PlainRunning m d l bytes start regs s → s < l
+pub running_next : {m d l : ℕ} {bytes start regs : List ℕ} {s : ℕ} → PlainRunning m d l bytes start regs s → s < l
     → (n : ℕ) → ReadBits d s bytes n
-    → (next : List ℕ) → next ≡ map (plainSum m regs) (operations (bits_of d n)) → PlainRunning m d l bytes start next (s + 1)
-unfolding registersAfter
-running-next {m} {d} {l} {bytes} {start} {regs} {s} t h n read next made = rw add-one record {
+    → (next : List ℕ) → next ≡ map (plain_sum m regs) (operations (bits_of d n)) → PlainRunning m d l bytes start next (s + 1)
+unfolding registers_after
+running_next {m} {d} {l} {bytes} {start} {regs} {s} t h n read next made = rw add-one record {
   within = h;
   step = stepped t.step n next made;
   done = λ S.
-      made ∙ ap (λ b. map (plainSum m regs) (operations b)) read.bits
-      ∙ sums-are-registers m d (matrixAfter d S (bits_at d bytes) s) regs (bits_at d bytes s)
-      ∙ ap (λ q. stepRegisters (plainRule m) d (matrixAfter d S (bits_at d bytes) s) q (bits_at d bytes s)) (t.done S);
+      made ∙ ap (λ b. map (plain_sum m regs) (operations b)) read.bits
+      ∙ sums_are_registers m d (matrix_after d S (bits_at d bytes) s) regs (bits_at d bytes s)
+      ∙ ap (λ q. step_registers (plain_rule m) d (matrix_after d S (bits_at d bytes) s) q (bits_at d bytes s)) (t.done S);
 }
 
 -- After the last.
-pub running-end : {m d l : ℕ} {bytes start regs : List ℕ} {s : ℕ} → PlainRunning m d l bytes start regs s → l ≤ s
-    → (S : List ℕ) → regs ≡ registersAfter (plainRule m) d S (bits_at d bytes) start l
-running-end {m} {d} {l} {bytes} {start} {regs} {s} t h S =
+pub running_end : {m d l : ℕ} {bytes start regs : List ℕ} {s : ℕ} → PlainRunning m d l bytes start regs s → l ≤ s
+    → (S : List ℕ) → regs ≡ registers_after (plain_rule m) d S (bits_at d bytes) start l
+running_end {m} {d} {l} {bytes} {start} {regs} {s} t h S =
     let over : s ≡ l = omega (arith, t.within) in
-    t.done S ∙ ap (registersAfter (plainRule m) d S (bits_at d bytes) start) over
+    t.done S ∙ ap (registers_after (plain_rule m) d S (bits_at d bytes) start) over

@@ -1,7 +1,7 @@
 // The plain run of what is not refused.
 ghost use Rattle.std.specs.Prelude.{◌≡◌, map};
-ghost use Rattle.ladder.specs.Plan.{planLent, lastMatrix};
-ghost use Rattle.ladder.specs.Refusals.{runRefusal};
+ghost use Rattle.ladder.specs.Plan.{plan_lent, last_matrix};
+ghost use Rattle.ladder.specs.Refusals.{run_refusal};
 ghost use Rattle.ladder.specs.Registers.{combination};
 ghost use Rattle.registers.specs.Inner.{Left};
 
@@ -21,8 +21,8 @@ pub fn plain_accepted(
     elements: &[u64],
     registers: &mut [u64],
 ) -> Ran
-    requires { runRefusal (planLent d l start.now bits.now row) m elements.now registers.old ≡ 0 }
-    ensures { Left (planLent d l start.now bits.now row) (map (combination m elements.now) (lastMatrix (planLent d l start.now bits.now row))) result registers.new }
+    requires { run_refusal (plan_lent d l start.now bits.now row) m elements.now registers.old ≡ 0 }
+    ensures { Left (plan_lent d l start.now bits.now row) (map (combination m elements.now) (last_matrix (plan_lent d l start.now bits.now row))) result registers.new }
 {
     let first = start_registers(m, start, elements);
     let n = d as usize + 1;

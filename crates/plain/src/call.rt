@@ -1,5 +1,5 @@
 // The public call `plain_run`.
-ghost use Rattle.ladder.specs.Plan.{planLent};
+ghost use Rattle.ladder.specs.Plan.{plan_lent};
 ghost use Rattle.run.specs.Promise.{PlainPromise};
 
 use crate::accepted::plain_accepted;
@@ -18,7 +18,7 @@ pub fn plain_run(
     elements: &[u64],
     registers: &mut [u64],
 ) -> Ran
-    ensures { PlainPromise (planLent d l start.now bits.now row) m elements.now registers.old result registers.new }
+    ensures { PlainPromise (plan_lent d l start.now bits.now row) m elements.now registers.old result registers.new }
 {
     let refusal = run_refusal(d, l, start, bits, row, m, elements, registers);
     if refusal != OK {

@@ -5,78 +5,78 @@ use mathlib.Core.Path.{◌≡◌, sym, ap, ap₂, subst, ◌∙◌}
 use mathlib.Core.List.{List, map}
 use native.Mathlib.Omega.{arith}
 use lib.ListN.{get_or, take, drop}
-use Rattle.ladder.specs.Numbers.{bit_at, valueWords, valuesLength, traceLength, elementsLength, registersLength, wordsOfAll}
-use Rattle.ladder.specs.Plan.{Plan, lastMatrix, matrixIn, valuesIn}
-use Rattle.ladder.specs.PlanFile.{planIn}
-use Rattle.ladder.specs.Trace.{traceBytes, doublings, additionCount}
-use Rattle.ladder.specs.Registers.{combination, differenceRegisters, answerRegister}
-use Rattle.ladder.specs.Refusals.{◌then◌, refusing, shape, tooLarge, element, readRefusal, planRefusal, planShape, looseRefusal, decodeRefusal, traceRefusal, runRefusal}
-use Rattle.ladder.proofs.Refusals.{accept-read}
-use Rattle.ladder.proofs.SamePlan.{SamePlan, same-matrix, same_answer, same-trace, same-difference}
+use Rattle.ladder.specs.Numbers.{bit_at, value_words, values_length, trace_length, elements_length, registers_length, words_of_all}
+use Rattle.ladder.specs.Plan.{Plan, last_matrix, matrix_in, values_in}
+use Rattle.ladder.specs.PlanFile.{plan_in}
+use Rattle.ladder.specs.Trace.{trace_bytes, doublings, addition_count}
+use Rattle.ladder.specs.Registers.{combination, difference_registers, answer_register}
+use Rattle.ladder.specs.Refusals.{◌then◌, refusing, shape, too_large, element, read_refusal, plan_refusal, plan_shape, loose_refusal, decode_refusal, trace_refusal, run_refusal}
+use Rattle.ladder.proofs.Refusals.{accept_read}
+use Rattle.ladder.proofs.SamePlan.{SamePlan, same_matrix, same_answer, same_trace, same-difference}
 use Rattle.ladder.proofs.Operations.{UnpackOk}
-use Rattle.ladder.proofs.AcceptedFiles.{held-shape}
+use Rattle.ladder.proofs.AcceptedFiles.{held_shape}
 use Rattle.decode.specs.Promise.{DecodePromise}
-use Rattle.decode.proofs.Unique.{decode-unique}
+use Rattle.decode.proofs.Unique.{decode_unique}
 use Rattle.trace.specs.Promise.{TracePromise}
 use Rattle.trace.specs.declared.call.Traced.{Traced}
-use Rattle.trace.proofs.Unique.{trace-unique}
+use Rattle.trace.proofs.Unique.{trace_unique}
 use Rattle.run.specs.Promise.{RunPromise, PlainPromise, DifferencePromise}
 use Rattle.run.specs.declared.answer.Ran.{Ran}
-use Rattle.run.proofs.Unique.{plain-unique, difference-unique}
+use Rattle.run.proofs.Unique.{plain_unique, difference_unique}
 use Rattle.planfile.specs.declared.unpacking.Unpacked.{Unpacked}
 use Rattle.planfile.specs.Promise.{UnpackPromise, BodyPromise}
-use Rattle.planfile.proofs.Promised.{unpack-accepts, unpack-accepted, body-accepted}
+use Rattle.planfile.proofs.Promised.{unpack_accepts, unpack_accepted, body_accepted}
 
 -- ---- two plans that say the same, in buffers of the same shape
 
-last-same : (p q : Plan) → SamePlan p q → lastMatrix p ≡ lastMatrix q
-unfolding lastMatrix
-last-same p q e = same-matrix p q e p.l (omega arith) ∙ ap (matrixIn q) e.l
+last_same : (p q : Plan) → SamePlan p q → last_matrix p ≡ last_matrix q
+unfolding last_matrix
+last_same p q e = same_matrix p q e p.l (omega arith) ∙ ap (matrix_in q) e.l
 
-module _ {p q : Plan} (e : SamePlan p q) (shapes : planShape p ≡ planShape q) (reads : readRefusal p ≡ readRefusal q) where
+module _ {p q : Plan} (e : SamePlan p q) (shapes : plan_shape p ≡ plan_shape q) (reads : read_refusal p ≡ read_refusal q) where
   -- They are refused alike, whatever else is lent ..
-  refused-alike : (others : ℕ → ℕ → ℕ) → looseRefusal p (others p.d p.l) ≡ looseRefusal q (others q.d q.l)
-  unfolding looseRefusal planRefusal
+  refused-alike : (others : ℕ → ℕ → ℕ) → loose_refusal p (others p.d p.l) ≡ loose_refusal q (others q.d q.l)
+  unfolding loose_refusal plan_refusal
   refused-alike others = rw (shapes, reads, e.d, e.l)
 
-  run-refused-alike : (m : ℕ) (elements registers : List ℕ) → runRefusal p m elements registers ≡ runRefusal q m elements registers
-  unfolding runRefusal
+  run-refused-alike : (m : ℕ) (elements registers : List ℕ) → run_refusal p m elements registers ≡ run_refusal q m elements registers
+  unfolding run_refusal
   run-refused-alike m elements registers =
-      ap (λ n. n then tooLarge m then element m elements)
-      (refused-alike (λ d l. shape elements (elementsLength d) then shape registers (registersLength d)))
+      ap (λ n. n then too_large m then element m elements)
+      (refused-alike (λ d l. shape elements (elements_length d) then shape registers (registers_length d)))
 
   -- .. so what one promises the other does: of decode ..
   decode-moved : {values : List ℕ} {r : ℕ} {valuesAfter : List ℕ} → DecodePromise q values r valuesAfter → DecodePromise p values r valuesAfter
-  unfolding decodeRefusal valuesIn
+  unfolding decode_refusal values_in
   decode-moved {values} {r} x = record {
-    refusal_is = x.refusal_is ∙ sym (refused-alike (λ d l. shape values (valuesLength d l)));
-    values-are = x.values-are ∙ ap (refusing r values) (sym (ap₂ (λ l row. wordsOfAll (valueWords l) row) e.l (same_answer p q e)));
+    refusal_is = x.refusal_is ∙ sym (refused-alike (λ d l. shape values (values_length d l)));
+    values_are = x.values_are ∙ ap (refusing r values) (sym (ap₂ (λ l row. words_of_all (value_words l) row) e.l (same_answer p q e)));
   }
 
   -- .. of trace ..
   trace-moved : {trace : List ℕ} {r : Traced} {traceAfter : List ℕ} → TracePromise q trace r traceAfter → TracePromise p trace r traceAfter
-  unfolding traceRefusal
+  unfolding trace_refusal
   trace-moved {trace} {r} x =
-      let same = sym (same-trace p q e) in
+      let same = sym (same_trace p q e) in
       record {
-        refusal_is = x.refusal_is ∙ sym (refused-alike (λ d l. shape trace (traceLength d l)));
-        doublings-are = x.doublings-are ∙ ap (λ es. refusing r.refusal 0 (doublings es)) same;
-        additions-are = x.additions-are ∙ ap (λ es. refusing r.refusal 0 (additionCount es)) same;
-        trace-is = x.trace-is ∙ ap (λ es. refusing r.refusal trace (traceBytes es)) same;
+        refusal_is = x.refusal_is ∙ sym (refused-alike (λ d l. shape trace (trace_length d l)));
+        doublings_are = x.doublings_are ∙ ap (λ es. refusing r.refusal 0 (doublings es)) same;
+        additions_are = x.additions_are ∙ ap (λ es. refusing r.refusal 0 (addition_count es)) same;
+        trace_is = x.trace_is ∙ ap (λ es. refusing r.refusal trace (trace_bytes es)) same;
       }
 
   -- .. and of a run.
-  run_moved : {refusal refusal' : ℕ} {registers wanted wanted' : List ℕ} {r : Ran} {registersAfter : List ℕ} → refusal ≡ refusal' → wanted ≡ wanted'
-      → RunPromise q refusal' registers wanted' r registersAfter → RunPromise p refusal registers wanted r registersAfter
-  unfolding answerRegister
+  run_moved : {refusal refusal' : ℕ} {registers wanted wanted' : List ℕ} {r : Ran} {registers_after : List ℕ} → refusal ≡ refusal' → wanted ≡ wanted'
+      → RunPromise q refusal' registers wanted' r registers_after → RunPromise p refusal registers wanted r registers_after
+  unfolding answer_register
   run_moved {registers = registers} {r = r} n w x =
-      let same = sym (same-trace p q e) in
+      let same = sym (same_trace p q e) in
       record {
         refusal_is = x.refusal_is ∙ sym n;
-        answer-is = x.answer-is ∙ ap₂ (λ i regs. refusing r.refusal 0 (get_or regs (pred i) 0)) (sym e.answer) (sym w);
-        doublings-are = x.doublings-are ∙ ap (λ es. refusing r.refusal 0 (doublings es)) same;
-        additions-are = x.additions-are ∙ ap (λ es. refusing r.refusal 0 (additionCount es)) same;
-        registers-are = x.registers-are ∙ ap (refusing r.refusal registers) (sym w);
+        answer_is = x.answer_is ∙ ap₂ (λ i regs. refusing r.refusal 0 (get_or regs (pred i) 0)) (sym e.answer) (sym w);
+        doublings_are = x.doublings_are ∙ ap (λ es. refusing r.refusal 0 (doublings es)) same;
+        additions_are = x.additions_are ∙ ap (λ es. refusing r.refusal 0 (addition_count es)) same;
+        registers_are = x.registers_are ∙ ap (refusing r.refusal registers) (sym w);
       }
 
 -- ---- two files
@@ -87,21 +87,21 @@ module _ {f g : List ℕ} {u v : Unpacked} (answered : UnpackPromise f u) (answe
     (starts : take u.d part ≡ take u.d part')
     (bits : (n : ℕ) → n < u.l * u.d → bit_at (drop u.d part) n ≡ bit_at (drop u.d part') n) where
   asked : UnpackOk f
-  asked = (unpack-accepts answered).0 none
+  asked = (unpack_accepts answered).0 none
 
   asked' : UnpackOk g
-  asked' = (unpack-accepts answered').0 (sym (ap (λ w. w.refusal) same) ∙ none)
+  asked' = (unpack_accepts answered').0 (sym (ap (λ w. w.refusal) same) ∙ none)
 
   -- They hold the same plan ..
-  pub files-plan : SamePlan (planIn f) (planIn g)
-  unfolding planIn
-  files-plan =
-      let here = unpack-accepted answered asked in
-      let there = unpack-accepted answered' asked' in
+  pub files_plan : SamePlan (plan_in f) (plan_in g)
+  unfolding plan_in
+  files_plan =
+      let here = unpack_accepted answered asked in
+      let there = unpack_accepted answered' asked' in
       let d = sym here.1 ∙ ap (λ w. w.d) same ∙ there.1 in
       let l = sym here.2 ∙ ap (λ w. w.l) same ∙ there.2 in
-      let part-f = (body-accepted body asked).0 in
-      let part-g = (body-accepted body' asked').0 in
+      let part-f = (body_accepted body asked).0 in
+      let part-g = (body_accepted body' asked').0 in
       record {
         d = d;
         l = l;
@@ -113,36 +113,36 @@ module _ {f g : List ℕ} {u v : Unpacked} (answered : UnpackPromise f u) (answe
         answer = sym here.3 ∙ ap (λ w. w.row) same ∙ there.3;
       }
 
-  shapes : planShape (planIn f) ≡ planShape (planIn g)
-  shapes = held-shape f asked ∙ sym (held-shape g asked')
+  shapes : plan_shape (plan_in f) ≡ plan_shape (plan_in g)
+  shapes = held_shape f asked ∙ sym (held_shape g asked')
 
-  reads : readRefusal (planIn f) ≡ readRefusal (planIn g)
-  reads = accept-read (planIn f) asked.plan ∙ sym (accept-read (planIn g) asked'.plan)
+  reads : read_refusal (plan_in f) ≡ read_refusal (plan_in g)
+  reads = accept_read (plan_in f) asked.plan ∙ sym (accept_read (plan_in g) asked'.plan)
 
   -- .. so decode answers and writes the same ..
-  pub files-decode : {values : List ℕ} {r s : ℕ} {valuesAfter valuesOther : List ℕ} → DecodePromise (planIn f) values r valuesAfter
-      → DecodePromise (planIn g) values s valuesOther → (r ≡ s) × (valuesAfter ≡ valuesOther)
-  files-decode x y = decode-unique x (decode-moved files-plan shapes reads y)
+  pub files_decode : {values : List ℕ} {r s : ℕ} {valuesAfter valuesOther : List ℕ} → DecodePromise (plan_in f) values r valuesAfter
+      → DecodePromise (plan_in g) values s valuesOther → (r ≡ s) × (valuesAfter ≡ valuesOther)
+  files_decode x y = decode_unique x (decode-moved files_plan shapes reads y)
 
   -- .. trace does ..
-  pub files-trace : {trace : List ℕ} {r s : Traced} {traceAfter traceOther : List ℕ} → TracePromise (planIn f) trace r traceAfter
-      → TracePromise (planIn g) trace s traceOther → (r ≡ s) × (traceAfter ≡ traceOther)
-  files-trace x y = trace-unique x (trace-moved files-plan shapes reads y)
+  pub files_trace : {trace : List ℕ} {r s : Traced} {traceAfter traceOther : List ℕ} → TracePromise (plan_in f) trace r traceAfter
+      → TracePromise (plan_in g) trace s traceOther → (r ≡ s) × (traceAfter ≡ traceOther)
+  files_trace x y = trace_unique x (trace-moved files_plan shapes reads y)
 
   -- .. the plain run does ..
-  pub files-plain : (m : ℕ) (elements : List ℕ) {registers : List ℕ} {r s : Ran} {registersAfter registersOther : List ℕ}
-      → PlainPromise (planIn f) m elements registers r registersAfter → PlainPromise (planIn g) m elements registers s registersOther
-      → (r ≡ s) × (registersAfter ≡ registersOther)
-  files-plain m elements {registers} x y =
-      plain-unique m elements x
-      (run_moved files-plan shapes reads (run-refused-alike files-plan shapes reads m elements registers)
-      (ap (map (combination m elements)) (last-same (planIn f) (planIn g) files-plan)) y)
+  pub files_plain : (m : ℕ) (elements : List ℕ) {registers : List ℕ} {r s : Ran} {registers_after registersOther : List ℕ}
+      → PlainPromise (plan_in f) m elements registers r registers_after → PlainPromise (plan_in g) m elements registers s registersOther
+      → (r ≡ s) × (registers_after ≡ registersOther)
+  files_plain m elements {registers} x y =
+      plain_unique m elements x
+      (run_moved files_plan shapes reads (run-refused-alike files_plan shapes reads m elements registers)
+      (ap (map (combination m elements)) (last_same (plan_in f) (plan_in g) files_plan)) y)
 
   -- .. and the difference run does.
-  pub files-difference : (m : ℕ) (elements : List ℕ) {registers : List ℕ} {r s : Ran} {registersAfter registersOther : List ℕ}
-      → DifferencePromise (planIn f) m elements registers r registersAfter → DifferencePromise (planIn g) m elements registers s registersOther
-      → (r ≡ s) × (registersAfter ≡ registersOther)
-  files-difference m elements {registers} x y =
-      difference-unique m elements x
-      (run_moved files-plan shapes reads (run-refused-alike files-plan shapes reads m elements registers)
-      (same-difference (planIn f) (planIn g) files-plan m elements (planIn f).l (omega arith) ∙ ap (differenceRegisters (planIn g) m elements) files-plan.l) y)
+  pub files_difference : (m : ℕ) (elements : List ℕ) {registers : List ℕ} {r s : Ran} {registers_after registersOther : List ℕ}
+      → DifferencePromise (plan_in f) m elements registers r registers_after → DifferencePromise (plan_in g) m elements registers s registersOther
+      → (r ≡ s) × (registers_after ≡ registersOther)
+  files_difference m elements {registers} x y =
+      difference_unique m elements x
+      (run_moved files_plan shapes reads (run-refused-alike files_plan shapes reads m elements registers)
+      (same-difference (plan_in f) (plan_in g) files_plan m elements (plan_in f).l (omega arith) ∙ ap (difference_registers (plan_in g) m elements) files_plan.l) y)

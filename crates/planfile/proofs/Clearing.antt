@@ -11,9 +11,9 @@ use lib.ListN.{length, get_or, set, length-set, get_or-eq_default}
 use lib.Pow.{pow-add, split, shl-shr, shr-shr}
 use lib.Seq.{get_or-set_same, get_or-set_other}
 use Rattle.ladder.specs.Lists.{tabulate}
-use Rattle.ladder.specs.Numbers.{bit_at, bytesFor, packBits}
+use Rattle.ladder.specs.Numbers.{bit_at, bytes_for, pack_bits}
 use Rattle.ladder.proofs.Lists.{tabulate-same}
-use Rattle.ladder.proofs.Bits.{pack-bits-of}
+use Rattle.ladder.proofs.Bits.{pack_bits_of}
 
 -- ---- a byte without its lowest f bits
 
@@ -22,8 +22,8 @@ whole : (b f : ℕ) → b - b % 2 ^ f ≡ b / 2 ^ f * 2 ^ f
 whole b f = omega (arith, split b f)
 
 -- The bits above them stay ..
-bit-stays : (b f k : ℕ) → f ≤ k → (b - b % 2 ^ f) / 2 ^ k % 2 ≡ b / 2 ^ k % 2
-bit-stays b f k h =
+bit_stays : (b f k : ℕ) → f ≤ k → (b - b % 2 ^ f) / 2 ^ k % 2 ≡ b / 2 ^ k % 2
+bit_stays b f k h =
     let up : f + (k - f) ≡ k = omega arith in
     ap (λ n. n % 2)
     (ap₂ (λ n m. n / 2 ^ m) (whole b f) (sym up)
@@ -33,8 +33,8 @@ bit-stays b f k h =
     ∙ ap (λ m. b / 2 ^ m) up)
 
 -- .. and they are 0.
-bit-cleared : (b f k : ℕ) → k < f → (b - b % 2 ^ f) / 2 ^ k % 2 ≡ 0
-bit-cleared b f k h =
+bit_cleared : (b f k : ℕ) → k < f → (b - b % 2 ^ f) / 2 ^ k % 2 ≡ 0
+bit_cleared b f k h =
     let j = f - suc k in
     let up : f ≡ suc j + k = omega arith in
     let q = b / 2 ^ f in
@@ -45,8 +45,8 @@ bit-cleared b f k h =
 -- ---- bytes whose last is such a byte: n bits, and f to fill them up
 
 -- The bytes without their filling bits.
-abbrev pub clearedBits : List ℕ → ℕ → List ℕ
-clearedBits bits f = let last = length bits - 1 in set bits last (get_or bits last 0 - get_or bits last 0 % 2 ^ f)
+abbrev pub cleared_bits : List ℕ → ℕ → List ℕ
+cleared_bits bits f = let last = length bits - 1 in set bits last (get_or bits last 0 - get_or bits last 0 % 2 ^ f)
 
 module _ (bits : List ℕ) (n f : ℕ) (some : 0 < length bits) (fill : 8 * length bits ≡ n + f) (few : f < 8)
     (small : (i : ℕ) → get_or bits i 0 < 256) where
@@ -56,38 +56,38 @@ module _ (bits : List ℕ) (n f : ℕ) (some : 0 < length bits) (fill : 8 * leng
   abbrev byte : ℕ
   byte = get_or bits last 0 - get_or bits last 0 % 2 ^ f
 
-  byte_at : get_or (clearedBits bits f) last 0 ≡ byte
+  byte_at : get_or (cleared_bits bits f) last 0 ≡ byte
   byte_at = get_or-set_same bits last byte 0 (omega arith)
 
-  byte-other : (q : ℕ) → q ≢ last → get_or (clearedBits bits f) q 0 ≡ get_or bits q 0
+  byte-other : (q : ℕ) → q ≢ last → get_or (cleared_bits bits f) q 0 ≡ get_or bits q 0
   byte-other q ne = get_or-set_other bits last q byte 0 ne
 
-  bytes_small : (q : ℕ) → get_or (clearedBits bits f) q 0 < 256
+  bytes_small : (q : ℕ) → get_or (cleared_bits bits f) q 0 < 256
   bytes_small q = go (ℕ_discrete q last)
     where
-      go : Dec (q ≡ last) → get_or (clearedBits bits f) q 0 < 256
+      go : Dec (q ≡ last) → get_or (cleared_bits bits f) q 0 < 256
       go (yes e) = rw (e, byte_at) (omega (arith, small last))
       go (no ne) = rw (byte-other q ne) (small q)
 
-  bits-stay : (i : ℕ) → i < n → bit_at (clearedBits bits f) i ≡ bit_at bits i
+  bits-stay : (i : ℕ) → i < n → bit_at (cleared_bits bits f) i ≡ bit_at bits i
   unfolding bit_at
   bits-stay i h = go (ℕ_discrete (i / 8) last)
     where
-      go : Dec (i / 8 ≡ last) → bit_at (clearedBits bits f) i ≡ bit_at bits i
-      go (yes e) = rw (e, byte_at) (bit-stays (get_or bits last 0) f (7 - i % 8) (omega arith))
+      go : Dec (i / 8 ≡ last) → bit_at (cleared_bits bits f) i ≡ bit_at bits i
+      go (yes e) = rw (e, byte_at) (bit_stays (get_or bits last 0) f (7 - i % 8) (omega arith))
       go (no ne) = ap (λ b. b / 2 ^ (7 - i % 8) % 2) (byte-other (i / 8) ne)
 
-  bits-filled : (i : ℕ) → n ≤ i → bit_at (clearedBits bits f) i ≡ 0
+  bits-filled : (i : ℕ) → n ≤ i → bit_at (cleared_bits bits f) i ≡ 0
   unfolding bit_at
   bits-filled i h = go (ℕ_discrete (i / 8) last)
     where
-      go : Dec (i / 8 ≡ last) → bit_at (clearedBits bits f) i ≡ 0
-      go (yes e) = rw (e, byte_at) (bit-cleared (get_or bits last 0) f (7 - i % 8) (omega arith))
+      go : Dec (i / 8 ≡ last) → bit_at (cleared_bits bits f) i ≡ 0
+      go (yes e) = rw (e, byte_at) (bit_cleared (get_or bits last 0) f (7 - i % 8) (omega arith))
       go (no ne) =
           ap (λ b. b / 2 ^ (7 - i % 8) % 2)
           (byte-other (i / 8) ne ∙ get_or-eq_default bits 0 (omega arith)) ∙ ap (λ b. b % 2) (zero-div (2 ^ (7 - i % 8)))
 
-  pub cleared-packed : clearedBits bits f ≡ packBits (tabulate n (bit_at bits))
-  cleared-packed =
-      sym (pack-bits-of (clearedBits bits f) n bytes_small (unfold bytesFor in omega (arith, length-set bits last byte)) bits-filled)
-      ∙ ap packBits (tabulate-same n (bit_at (clearedBits bits f)) (bit_at bits) bits-stay)
+  pub cleared_packed : cleared_bits bits f ≡ pack_bits (tabulate n (bit_at bits))
+  cleared_packed =
+      sym (pack_bits_of (cleared_bits bits f) n bytes_small (unfold bytes_for in omega (arith, length-set bits last byte)) bits-filled)
+      ∙ ap pack_bits (tabulate-same n (bit_at (cleared_bits bits f)) (bit_at bits) bits-stay)

@@ -9,7 +9,7 @@ use native.Mathlib.Omega.{arith}
 use lib.Dec.{eqb}
 use lib.ListN.{length, get_or, drop, length-drop}
 use lib.Seq.{get_or-drop}
-use Rattle.ladder.specs.PlanFile.{markIn}
+use Rattle.ladder.specs.PlanFile.{mark_in}
 use Rattle.ladder.specs.Refusals.{same_numbers}
 
 -- A list of four, element by element.
@@ -34,10 +34,10 @@ same_bytes s t e f =
 -- So a file ends in a mark where each of its last four bytes is the mark's.
 pub same-mark : (file mark : List ℕ) → 4 ≤ length file → length mark ≡ 4
     → (let at = length file - 4 in
-    same_numbers (markIn file) mark
+    same_numbers (mark_in file) mark
     ≡ eqb (get_or file at 0) (get_or mark 0 0)
     && (eqb (get_or file (at + 1) 0) (get_or mark 1 0) && (eqb (get_or file (at + 2) 0) (get_or mark 2 0) && eqb (get_or file (at + 3) 0) (get_or mark 3 0))))
-unfolding markIn
+unfolding mark_in
 same-mark file mark h e =
     let at = length file - 4 in
     same_bytes (drop at file) mark (simp length-drop (omega arith)) e

@@ -5,38 +5,38 @@ use Prim.Native.Nat.{ℕ, ◌+◌}
 use mathlib.Core.Path.{◌≡◌, sym, ap, ◌∙◌}
 use mathlib.Core.List.{List, ◌++◌}
 use lib.ListN.{length}
-use Rattle.ladder.specs.PlanFile.{bodyPlace}
+use Rattle.ladder.specs.PlanFile.{body_place}
 use Rattle.ladder.proofs.Operations.{UnpackOk}
-use Rattle.ladder.proofs.Prefaces.{d-after, answer-after, l-after, place_after, body-after, accepted-after}
+use Rattle.ladder.proofs.Prefaces.{d_after, answer_after, l_after, place_after, body_after, accepted_after}
 use Rattle.planfile.specs.declared.unpacking.Unpacked.{Unpacked}
 use Rattle.planfile.specs.Promise.{UnpackPromise, BodyPromise}
 use Rattle.planfile.proofs.Unique.{same-unpacked}
-use Rattle.planfile.proofs.Promised.{unpack-accepts, unpack-accepted, body-accepted}
+use Rattle.planfile.proofs.Promised.{unpack_accepts, unpack_accepted, body_accepted}
 
 module _ (pre : List ℕ) {file : List ℕ} {u : Unpacked} (promise : UnpackPromise file u) (none : u.refusal ≡ 0) where
   asked : UnpackOk file
-  asked = (unpack-accepts promise).0 none
+  asked = (unpack_accepts promise).0 none
 
   -- Unpack's four numbers are the same ..
-  pub unpack-prefaced : {v : Unpacked} → UnpackPromise (pre ++ file) v → v ≡ u
-  unpack-prefaced {v} other =
-      let here = unpack-accepted promise asked in
-      let there = unpack-accepted other (accepted-after pre file asked) in
-      same-unpacked v u (there.0 ∙ sym here.0) (there.1 ∙ d-after pre file asked.twelve ∙ sym here.1)
-      (there.2 ∙ l-after pre file asked.twelve ∙ sym here.2) (there.3 ∙ answer-after pre file asked.twelve ∙ sym here.3)
+  pub unpack_prefaced : {v : Unpacked} → UnpackPromise (pre ++ file) v → v ≡ u
+  unpack_prefaced {v} other =
+      let here = unpack_accepted promise asked in
+      let there = unpack_accepted other (accepted_after pre file asked) in
+      same-unpacked v u (there.0 ∙ sym here.0) (there.1 ∙ d_after pre file asked.twelve ∙ sym here.1)
+      (there.2 ∙ l_after pre file asked.twelve ∙ sym here.2) (there.3 ∙ answer_after pre file asked.twelve ∙ sym here.3)
 
   module _ {place place' partPlace partPlace' : ℕ × ℕ} {part part' : List ℕ}
       (body : BodyPromise file place part partPlace) (other : BodyPromise (pre ++ file) place' part' partPlace') where
     -- .. the body's bytes are the same ..
-    pub body-prefaced : part' ≡ part
-    body-prefaced =
-        (body-accepted other (accepted-after pre file asked)).0
-        ∙ body-after pre file asked.twelve asked.before
-        ∙ sym (body-accepted body asked).0
+    pub body_prefaced : part' ≡ part
+    body_prefaced =
+        (body_accepted other (accepted_after pre file asked)).0
+        ∙ body_after pre file asked.twelve asked.before
+        ∙ sym (body_accepted body asked).0
 
     -- .. and they begin as much further on as bytes stand before the file.
-    pub place-prefaced : (partPlace.1 ≡ place.1 + bodyPlace file) × (partPlace'.1 ≡ place'.1 + (length pre + bodyPlace file))
-    place-prefaced = (
-      (body-accepted body asked).2,
-      (body-accepted other (accepted-after pre file asked)).2 ∙ ap (λ n. place'.1 + n) (place_after pre file asked.twelve asked.before),
+    pub place_prefaced : (partPlace.1 ≡ place.1 + body_place file) × (partPlace'.1 ≡ place'.1 + (length pre + body_place file))
+    place_prefaced = (
+      (body_accepted body asked).2,
+      (body_accepted other (accepted_after pre file asked)).2 ∙ ap (λ n. place'.1 + n) (place_after pre file asked.twelve asked.before),
     )

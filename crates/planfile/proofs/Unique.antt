@@ -15,21 +15,21 @@ same-unpacked r s n d l i =
     ∙ ap₂ (λ a b. record { refusal = s.refusal; d = s.d; l = a; row = b }) l i
 
 -- Two refusals with two outputs that pack could answer and leave on the same input are equal.
-pub pack-unique : {p : Plan} {file : List ℕ} {r s : ℕ} {fileAfter fileOther : List ℕ}
+pub pack_unique : {p : Plan} {file : List ℕ} {r s : ℕ} {fileAfter fileOther : List ℕ}
     → PackPromise p file r fileAfter → PackPromise p file s fileOther → (r ≡ s) × (fileAfter ≡ fileOther)
-pack-unique x y =
+pack_unique x y =
     let n = x.refusal_is ∙ sym y.refusal_is in
-    (n, refusing-same _ _ n x.file-is y.file-is)
+    (n, refusing-same _ _ n x.file_is y.file_is)
 
 -- Two answers that unpack could give on the same bytes are equal.
-pub unpack-unique : {file : List ℕ} {r s : Unpacked} → UnpackPromise file r → UnpackPromise file s → r ≡ s
-unpack-unique {r = r} {s} x y =
+pub unpack_unique : {file : List ℕ} {r s : Unpacked} → UnpackPromise file r → UnpackPromise file s → r ≡ s
+unpack_unique {r = r} {s} x y =
     let n = x.refusal_is ∙ sym y.refusal_is in
-    same-unpacked r s n (refusing-same _ _ n x.d-is y.d-is) (refusing-same _ _ n x.l-is y.l-is)
+    same-unpacked r s n (refusing-same _ _ n x.d_is y.d_is) (refusing-same _ _ n x.l_is y.l_is)
     (refusing-same _ _ n x.row_is y.row_is)
 
 -- Two parts that body could hand back of the same bytes at the same place are the same bytes at the same place.
-pub body-unique : {file : List ℕ} {place : ℕ × ℕ} {part other : List ℕ} {partPlace otherPlace : ℕ × ℕ}
+pub body_unique : {file : List ℕ} {place : ℕ × ℕ} {part other : List ℕ} {partPlace otherPlace : ℕ × ℕ}
     → BodyPromise file place part partPlace → BodyPromise file place other otherPlace
     → (part ≡ other) × (partPlace.0 ≡ otherPlace.0) × (partPlace.1 ≡ otherPlace.1)
-body-unique x y = (x.bytes-are ∙ sym y.bytes-are, x.block-is ∙ sym y.block-is, x.offset-is ∙ sym y.offset-is)
+body_unique x y = (x.bytes_are ∙ sym y.bytes_are, x.block_is ∙ sym y.block_is, x.offset_is ∙ sym y.offset_is)

@@ -1,7 +1,7 @@
 // The public call `pack`: a plan written as a file, with nothing before its body.
 ghost use Rattle.std.specs.Prelude.{◌≡◌, ◌-◌, ◌%◌, ◌^◌, ◌<◌};
-ghost use Rattle.ladder.specs.Plan.{planLent};
-ghost use Rattle.ladder.specs.PlanFile.{fileOf};
+ghost use Rattle.ladder.specs.Plan.{plan_lent};
+ghost use Rattle.ladder.specs.PlanFile.{file_of};
 ghost use Rattle.planfile.specs.Inner.{Packable};
 ghost use Rattle.planfile.specs.Promise.{PackPromise};
 
@@ -21,7 +21,7 @@ fn cleared(byte: u8, n: usize) -> u8
 // Start order, bits with 0 for filling, and the trailer.
 fn write_file(d: usize, l: usize, start: &[u8], bits: &[u8], row: usize, file: &mut [u8])
     requires { Packable d l start.now bits.now row file.old }
-    ensures { file.new ≡ fileOf (planLent d l start.now bits.now row) }
+    ensures { file.new ≡ file_of (plan_lent d l start.now bits.now row) }
 {
     let body = d + bits.len();
     let filling = 8 * bits.len() - l * d;
@@ -35,7 +35,7 @@ fn write_file(d: usize, l: usize, start: &[u8], bits: &[u8], row: usize, file: &
 // Writes a plan into a file of exactly d + ceil(l * d / 8) + 12 bytes. Answers the refusal (1, 2, 3, 5, 6); where there is one, the file is
 // as it came.
 pub fn pack(d: u64, l: u64, start: &[u8], bits: &[u8], row: u64, file: &mut [u8]) -> u64
-    ensures { PackPromise (planLent d l start.now bits.now row) file.old result file.new }
+    ensures { PackPromise (plan_lent d l start.now bits.now row) file.old result file.new }
 {
     let refusal = loose_refusal(d, l, start, bits, row, Beside::File(file.len()));
     if refusal != OK {

@@ -1,6 +1,6 @@
 // The trailer at the end of a file: its fields stand in the last 12 bytes, the mark in the last four.
 ghost use Rattle.std.specs.Prelude.{◌≡◌, ◌∷◌, ◌++◌, ◌+◌, ◌*◌, ◌≤◌, ◌<◌, length, get_or};
-ghost use Rattle.ladder.specs.PlanFile.{trailerSize, markIn, twoBytes, fourBytes, mark};
+ghost use Rattle.ladder.specs.PlanFile.{trailer_size, mark_in, two_bytes, four_bytes, mark};
 ghost use Rattle.ladder.specs.Refusals.{same_numbers};
 ghost use Rattle.planfile.specs.Inner.{FieldsRead, TrailerRead};
 
@@ -23,7 +23,7 @@ pub struct Trailer {
 // Whether the last four bytes are the mark.
 fn marked(file: &[u8], mark: [u8; 4]) -> bool
     requires { 4 ≤ length file.now }
-    ensures { result ≡ same_numbers (markIn file.now) mark }
+    ensures { result ≡ same_numbers (mark_in file.now) mark }
 {
     let at = file.len() - 4;
     if file[at] != mark[0] {
@@ -48,7 +48,7 @@ fn two_bytes(file: &[u8], at: usize) -> u64
 
 // The fields of the last 12 bytes, numbers low byte first.
 fn fields(file: &[u8]) -> Trailer
-    requires { trailerSize ≤ length file.now }
+    requires { trailer_size ≤ length file.now }
     ensures { (result.refusal ≡ 0) × FieldsRead file.now result.d result.row result.l result.distance }
 {
     let at = file.len() - TRAILER_SIZE;
@@ -63,7 +63,7 @@ fn fields(file: &[u8]) -> Trailer
 
 // Reads a trailer of `size` bytes that must end with `mark`: 9 for a file that is shorter or ends otherwise, else its fields.
 pub fn read_trailer(file: &[u8], size: usize, mark: [u8; 4]) -> Trailer
-    requires { trailerSize ≤ size }
+    requires { trailer_size ≤ size }
     ensures { TrailerRead file.now size mark result }
 {
     let none = Trailer {
@@ -84,7 +84,7 @@ pub fn read_trailer(file: &[u8], size: usize, mark: [u8; 4]) -> Trailer
 
 // The trailer of a plan file.
 pub fn trailer_of(d: u8, row: u8, l: usize, distance: usize) -> [u8; TRAILER_SIZE]
-    ensures { result ≡ d ∷ row ∷ twoBytes l ++ fourBytes distance ++ mark }
+    ensures { result ≡ d ∷ row ∷ two_bytes l ++ four_bytes distance ++ mark }
 {
     [
         d,

@@ -1,8 +1,8 @@
 // Whether bytes are a plan file: the trailer, then the plan that it tells of.
 ghost use Rattle.std.specs.Prelude.{◌≡◌, ◌+◌, ◌≤◌, ◌<◌, length};
-ghost use Rattle.ladder.specs.Refusals.{planRefusal};
+ghost use Rattle.ladder.specs.Refusals.{plan_refusal};
 ghost use Rattle.refuse.specs.Inner.{InRange};
-ghost use Rattle.planfile.specs.Inner.{distanceTold, planTold, BodyCut, Judged};
+ghost use Rattle.planfile.specs.Inner.{distance_told, plan_told, BodyCut, Judged};
 
 use crate::trailer::{MARK, Trailer, read_trailer};
 use judge::read_refusal;
@@ -11,7 +11,7 @@ use refuse::{OK, TRAILER, TRAILER_SIZE, bits_length};
 // Number 9 of the back distance: it must be the body's length, and as many bytes must stand before the trailer of `size` bytes.
 fn distance_refusal(t: Trailer, size: usize, file: &[u8]) -> u64
     requires { InRange t.d t.l × (size < 256) }
-    ensures { result ≡ distanceTold t size file.now }
+    ensures { result ≡ distance_told t size file.now }
 {
     if t.distance != t.d + bits_length(t.d, t.l) {
         return TRAILER;
@@ -35,7 +35,7 @@ pub fn body_part(file: &[u8], t: Trailer, size: usize) -> &[u8]
 // The refusal of the plan that a trailer of `size` bytes tells of: 1; 2; 9 for the distance; 5; 6.
 fn plan_refusal(t: Trailer, size: usize, file: &[u8]) -> u64
     requires { size < 256 }
-    ensures { result ≡ planRefusal (planTold t size file.now) (distanceTold t size file.now) }
+    ensures { result ≡ plan_refusal (plan_told t size file.now) (distance_told t size file.now) }
 {
     let range = refuse::range(t.d, t.l);
     if range != OK {

@@ -4,7 +4,7 @@ use Rattle.std.specs.Prelude.{ℕ, ◌≤◌}
 
 -- Neither d nor l is refused.
 pub record InRange (d l : ℕ) : Type 0 where
-  pub dLow : 1 ≤ d
-  pub dHigh : d ≤ 8
-  pub lLow : 1 ≤ l
-  pub lHigh : l ≤ 576
+  pub d_low : 1 ≤ d
+  pub d_high : d ≤ 8
+  pub l_low : 1 ≤ l
+  pub l_high : l ≤ 576

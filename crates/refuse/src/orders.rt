@@ -1,7 +1,7 @@
 // Whether numbers are an arrangement of 1..d.
 ghost use Rattle.std.specs.Prelude.{◌≡◌};
 ghost use Rattle.ladder.specs.Lists.{all, count};
-ghost use Rattle.ladder.specs.Refusals.{within, eachOnce, isArrangement};
+ghost use Rattle.ladder.specs.Refusals.{within, each_once, is_arrangement};
 
 use crate::ranges::within;
 use lent::wide;
@@ -37,7 +37,7 @@ fn count(v: u64, s: &[u8]) -> usize
 
 // Each of 1..d occurs once.
 fn each_once(d: u64, s: &[u8]) -> bool
-    ensures { result ≡ eachOnce d s.now }
+    ensures { result ≡ each_once d s.now }
 {
     let mut v = d;
     while 0 < v {
@@ -50,7 +50,7 @@ fn each_once(d: u64, s: &[u8]) -> bool
 }
 
 pub fn arrangement(d: u64, s: &[u8]) -> bool
-    ensures { result ≡ isArrangement d s.now }
+    ensures { result ≡ is_arrangement d s.now }
 {
     if s.len() as u64 != d {
         return false;

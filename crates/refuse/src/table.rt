@@ -1,7 +1,7 @@
 // A function for each number of the table that more than one call can give, and the first refusal that applies. Number 4 stands with the
 // scalars, a walk state's 5 and a step's 3 with the walk, 9 with the plan file, 10 with the listing.
 ghost use Rattle.std.specs.Prelude.{◌≡◌, eqb};
-ghost use Rattle.ladder.specs.Refusals.{◌then◌, unless, within, SHAPE, dim, len, order, answer, tooLarge, element};
+ghost use Rattle.ladder.specs.Refusals.{◌then◌, unless, within, SHAPE, dim, len, order, answer, too_large, element};
 
 use crate::elements::all_below;
 use crate::orders::arrangement;
@@ -92,7 +92,7 @@ pub fn answer(d: u64, row: u64) -> u64
 
 // A modulus above 2^63.
 pub fn too_large(m: u64) -> u64
-    ensures { result ≡ tooLarge m }
+    ensures { result ≡ too_large m }
 {
     if m <= LARGEST_MODULUS { OK } else { MODULUS }
 }

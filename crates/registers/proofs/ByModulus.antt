@@ -7,27 +7,27 @@ use Rattle.ladder.specs.Registers.{modulus}
 
 -- ---- the modulus
 
-pub modulus-zero : (m : ℕ) → m ≡ 0 → modulus m ≡ 2 ^ 64
+pub modulus_zero : (m : ℕ) → m ≡ 0 → modulus m ≡ 2 ^ 64
 unfolding modulus
-modulus-zero zero e = refl
-modulus-zero (suc m) e = absurd (omega arith)
+modulus_zero zero e = refl
+modulus_zero (suc m) e = absurd (omega arith)
 
-pub modulus-some : (m : ℕ) → m ≢ 0 → modulus m ≡ m
+pub modulus_some : (m : ℕ) → m ≢ 0 → modulus m ≡ m
 unfolding modulus
-modulus-some zero n = absurd (n refl)
-modulus-some (suc m) n = refl
+modulus_some zero n = absurd (n refl)
+modulus_some (suc m) n = refl
 
-pub modulus-positive : (m : ℕ) → 0 < modulus m
+pub modulus_positive : (m : ℕ) → 0 < modulus m
 unfolding modulus
-modulus-positive zero = omega arith
-modulus-positive (suc m) = omega arith
+modulus_positive zero = omega arith
+modulus_positive (suc m) = omega arith
 
 -- What is reduced is an element.
-pub below-modulus : (m n : ℕ) → n % modulus m < modulus m
-below-modulus m n = mod-lt n (modulus-positive m)
+pub below_modulus : (m n : ℕ) → n % modulus m < modulus m
+below_modulus m n = mod-lt n (modulus_positive m)
 
-pub element-kept : (m n : ℕ) → n < modulus m → n % modulus m ≡ n
-element-kept m n h = mod-eq_of_lt h
+pub element_kept : (m n : ℕ) → n < modulus m → n % modulus m ≡ n
+element_kept m n h = mod-eq_of_lt h
 
 -- ---- sums
 
@@ -41,27 +41,27 @@ back_fits m t h f = go (t / 2 ^ 63) (omega arith)
     go (suc (suc q)) l = absurd (omega arith)
 
 -- t is the wrapped a + b - m: its highest bit is 1 exactly where a + b is less than m, and then m comes back.
-pub sum-reduced : (m a b t r : ℕ) → m ≤ 2 ^ 63 → a < modulus m → b < modulus m → t < 2 ^ 64
+pub sum_reduced : (m a b t r : ℕ) → m ≤ 2 ^ 63 → a < modulus m → b < modulus m → t < 2 ^ 64
     → (t + m) % 2 ^ 64 ≡ (a + b) % 2 ^ 64 → r ≡ (t + t / 2 ^ 63 * m) % 2 ^ 64 → r ≡ (a + b) % modulus m
-sum-reduced zero a b t r h k l f w o =
-    let M = modulus-zero zero refl in
+sum_reduced zero a b t r h k l f w o =
+    let M = modulus_zero zero refl in
     rw M (omega (arith, mul-zero (t / 2 ^ 63)))
-sum-reduced (suc m) a b t r h k l f w o = go (dec_lt (a + b) (suc m))
+sum_reduced (suc m) a b t r h k l f w o = go (dec_lt (a + b) (suc m))
   where
     M : modulus (suc m) ≡ suc m
-    M = modulus-some (suc m) (λ z. omega arith)
+    M = modulus_some (suc m) (λ z. omega arith)
 
     go : Dec (a + b < suc m) → r ≡ (a + b) % modulus (suc m)
     go (yes less) =
         let top : t / 2 ^ 63 ≡ 1 = omega (arith, M) in
         let back : t / 2 ^ 63 * suc m ≡ suc m = ap (λ q. q * suc m) top ∙ one-mul (suc m) in
         let is : r ≡ a + b = omega (arith, M) in
-        is ∙ sym (element-kept (suc m) (a + b) (omega (arith, M)))
+        is ∙ sym (element_kept (suc m) (a + b) (omega (arith, M)))
     go (no more) =
         let top : t / 2 ^ 63 ≡ 0 = omega (arith, M) in
         let none : t / 2 ^ 63 * suc m ≡ 0 = ap (λ q. q * suc m) top ∙ zero-mul (suc m) in
         let is : r ≡ a + b - suc m = omega (arith, M) in
         let rest : a + b - suc m < modulus (suc m) = omega (arith, M) in
         let whole : a + b - suc m + 1 * modulus (suc m) ≡ a + b = omega (arith, M) in
-        is ∙ sym (element-kept (suc m) (a + b - suc m) rest) ∙ sym (add-mul-mod_self_right (a + b - suc m) 1 (modulus (suc m)))
+        is ∙ sym (element_kept (suc m) (a + b - suc m) rest) ∙ sym (add-mul-mod_self_right (a + b - suc m) 1 (modulus (suc m)))
         ∙ ap (λ n. n % modulus (suc m)) whole

@@ -1,7 +1,7 @@
 // The refusal of a run.
 ghost use Rattle.std.specs.Prelude.{◌≡◌};
-ghost use Rattle.ladder.specs.Plan.{planLent};
-ghost use Rattle.ladder.specs.Refusals.{runRefusal};
+ghost use Rattle.ladder.specs.Plan.{plan_lent};
+ghost use Rattle.ladder.specs.Refusals.{run_refusal};
 
 use judge::{Beside, loose_refusal};
 use refuse::OK;
@@ -17,7 +17,7 @@ pub fn run_refusal(
     elements: &[u64],
     registers: &[u64],
 ) -> u64
-    ensures { result ≡ runRefusal (planLent d l start.now bits.now row) m elements.now registers.now }
+    ensures { result ≡ run_refusal (plan_lent d l start.now bits.now row) m elements.now registers.now }
 {
     let beside = Beside::Run(elements.len(), registers.len());
     let early = loose_refusal(d, l, start, bits, row, beside);

@@ -15,24 +15,24 @@ same-ran r s n a d e =
     ∙ ap₂ (λ i j. record { refusal = s.refusal; answer = s.answer; doublings = i; additions = j }) d e
 
 -- Two answers with two outputs that a run could give and leave on the same input are equal ..
-pub run-unique : {p : Plan} {refusal : ℕ} {registers wanted : List ℕ} {r s : Ran} {registersAfter registersOther : List ℕ}
-    → RunPromise p refusal registers wanted r registersAfter → RunPromise p refusal registers wanted s registersOther
-    → (r ≡ s) × (registersAfter ≡ registersOther)
-run-unique {r = r} {s} x y =
+pub run_unique : {p : Plan} {refusal : ℕ} {registers wanted : List ℕ} {r s : Ran} {registers_after registersOther : List ℕ}
+    → RunPromise p refusal registers wanted r registers_after → RunPromise p refusal registers wanted s registersOther
+    → (r ≡ s) × (registers_after ≡ registersOther)
+run_unique {r = r} {s} x y =
     let n = x.refusal_is ∙ sym y.refusal_is in (
-      same-ran r s n (refusing-same _ _ n x.answer-is y.answer-is) (refusing-same _ _ n x.doublings-are y.doublings-are)
-          (refusing-same _ _ n x.additions-are y.additions-are),
-      refusing-same _ _ n x.registers-are y.registers-are,
+      same-ran r s n (refusing-same _ _ n x.answer_is y.answer_is) (refusing-same _ _ n x.doublings_are y.doublings_are)
+          (refusing-same _ _ n x.additions_are y.additions_are),
+      refusing-same _ _ n x.registers_are y.registers_are,
     )
 
 -- .. of the plain run ..
-pub plain-unique : (m : ℕ) (elements : List ℕ) {p : Plan} {registers : List ℕ} {r s : Ran} {registersAfter registersOther : List ℕ}
-    → PlainPromise p m elements registers r registersAfter → PlainPromise p m elements registers s registersOther
-    → (r ≡ s) × (registersAfter ≡ registersOther)
-plain-unique m elements x y = run-unique x y
+pub plain_unique : (m : ℕ) (elements : List ℕ) {p : Plan} {registers : List ℕ} {r s : Ran} {registers_after registersOther : List ℕ}
+    → PlainPromise p m elements registers r registers_after → PlainPromise p m elements registers s registersOther
+    → (r ≡ s) × (registers_after ≡ registersOther)
+plain_unique m elements x y = run_unique x y
 
 -- .. and of the difference run.
-pub difference-unique : (m : ℕ) (elements : List ℕ) {p : Plan} {registers : List ℕ} {r s : Ran} {registersAfter registersOther : List ℕ}
-    → DifferencePromise p m elements registers r registersAfter → DifferencePromise p m elements registers s registersOther
-    → (r ≡ s) × (registersAfter ≡ registersOther)
-difference-unique m elements x y = run-unique x y
+pub difference_unique : (m : ℕ) (elements : List ℕ) {p : Plan} {registers : List ℕ} {r s : Ran} {registers_after registersOther : List ℕ}
+    → DifferencePromise p m elements registers r registers_after → DifferencePromise p m elements registers s registersOther
+    → (r ≡ s) × (registers_after ≡ registersOther)
+difference_unique m elements x y = run_unique x y

@@ -9,9 +9,9 @@ use lib.ListN.{length, get_or, drop, length-drop, drop_of_length-le}
 use lib.Pow.{pow_mono}
 use lib.Seq.{drop-cons}
 use Rattle.ladder.specs.Lists.{odds}
-use Rattle.ladder.specs.Numbers.{number_of, numbersOf}
-use Rattle.ladder.proofs.Lists.{odds-le}
-use Rattle.ladder.proofs.Numbers.{length-numbersOf, own, number_at}
+use Rattle.ladder.specs.Numbers.{number_of, numbers_of}
+use Rattle.ladder.proofs.Lists.{odds_le}
+use Rattle.ladder.proofs.Numbers.{length-numbers_of, own, number_at}
 use Rattle.scalars.specs.Inner.{gathered}
 
 -- One number more in front.
@@ -25,84 +25,84 @@ unfolding odds
 odds-drop ks j h = ap odds (drop-cons ks j 0 h)
 
 -- As many bits as there are numbers.
-gathered-below : (ks : List ℕ) (i : ℕ) → gathered ks i < 2 ^ length ks
+gathered_below : (ks : List ℕ) (i : ℕ) → gathered ks i < 2 ^ length ks
 unfolding gathered
-gathered-below [] i = omega arith
-gathered-below (n ∷ ns) i = omega (arith, gathered-below ns i, two-pow-succ (length ns))
+gathered_below [] i = omega arith
+gathered_below (n ∷ ns) i = omega (arith, gathered_below ns i, two-pow-succ (length ns))
 
 -- Past the length of the numbers every bit is 0.
-pub gathered-past : (ks : List ℕ) (i : ℕ) → ((j : ℕ) → j < length ks → get_or ks j 0 < 2 ^ i) → gathered ks i ≡ 0
+pub gathered_past : (ks : List ℕ) (i : ℕ) → ((j : ℕ) → j < length ks → get_or ks j 0 < 2 ^ i) → gathered ks i ≡ 0
 unfolding gathered
-gathered-past [] i h = refl
-gathered-past (n ∷ ns) i h =
-    omega (arith, gathered-past ns i (λ j l. h (suc j) (omega arith)), div-eq_of_lt (h zero (omega arith)))
+gathered_past [] i h = refl
+gathered_past (n ∷ ns) i h =
+    omega (arith, gathered_past ns i (λ j l. h (suc j) (omega arith)), div-eq_of_lt (h zero (omega arith)))
 
 -- Bit j is that of number j.
-pub gathered-bit : (ks : List ℕ) (i j : ℕ) → gathered ks i / 2 ^ j % 2 ≡ get_or ks j 0 / 2 ^ i % 2
+pub gathered_bit : (ks : List ℕ) (i j : ℕ) → gathered ks i / 2 ^ j % 2 ≡ get_or ks j 0 / 2 ^ i % 2
 unfolding gathered
-gathered-bit [] i j = ap (λ m. m % 2) (zero-div (2 ^ j) ∙ sym (zero-div (2 ^ i)))
-gathered-bit (n ∷ ns) i zero = omega (arith, div-one (gathered ns i * 2 + n / 2 ^ i % 2))
-gathered-bit (n ∷ ns) i (suc j) =
+gathered_bit [] i j = ap (λ m. m % 2) (zero-div (2 ^ j) ∙ sym (zero-div (2 ^ i)))
+gathered_bit (n ∷ ns) i zero = omega (arith, div-one (gathered ns i * 2 + n / 2 ^ i % 2))
+gathered_bit (n ∷ ns) i (suc j) =
     ap (λ m. m % 2)
     (ap (λ m. (gathered ns i * 2 + n / 2 ^ i % 2) / m) (pow-succ' 2 j)
     ∙ sym (div-div-eq-div-mul (gathered ns i * 2 + n / 2 ^ i % 2) 2 (2 ^ j))
     ∙ ap (λ m. m / 2 ^ j) (omega arith))
-    ∙ gathered-bit ns i j
+    ∙ gathered_bit ns i j
 
 -- ---- the numbers in words, from the last to the first
 
 module _ (d k : ℕ) (ws : List ℕ) where
-  none_left : drop d (numbersOf d k ws) ≡ []
-  none_left = drop_of_length-le (numbersOf d k ws) {i = d} (omega (arith, length-numbersOf d k ws))
+  none_left : drop d (numbers_of d k ws) ≡ []
+  none_left = drop_of_length-le (numbers_of d k ws) {i = d} (omega (arith, length-numbers_of d k ws))
 
-  pub gathered_none : (i : ℕ) → 0 ≡ gathered (drop d (numbersOf d k ws)) i
+  pub gathered_none : (i : ℕ) → 0 ≡ gathered (drop d (numbers_of d k ws)) i
   unfolding gathered
   gathered_none i = sym (ap (λ ns. gathered ns i) none_left)
 
-  pub odds-none : 0 ≡ odds (drop d (numbersOf d k ws))
+  pub odds_none : 0 ≡ odds (drop d (numbers_of d k ws))
   unfolding odds
-  odds-none = sym (ap odds none_left)
+  odds_none = sym (ap odds none_left)
 
   -- Eight bits are below 256, and there are at most eight odd numbers.
-  pub gathered-small : (i j : ℕ) → d ≤ 8 → gathered (drop j (numbersOf d k ws)) i < 256
-  gathered-small i j h =
-      let ks = numbersOf d k ws in
+  pub gathered_small : (i j : ℕ) → d ≤ 8 → gathered (drop j (numbers_of d k ws)) i < 256
+  gathered_small i j h =
+      let ks = numbers_of d k ws in
       omega (
         arith,
-        gathered-below (drop j ks) i,
-        pow_mono {i = length (drop j ks)} {j = 8} (omega (arith, length-drop j ks, length-numbersOf d k ws)),
+        gathered_below (drop j ks) i,
+        pow_mono {i = length (drop j ks)} {j = 8} (omega (arith, length-drop j ks, length-numbers_of d k ws)),
       )
 
-  pub odds-small : (j : ℕ) → d ≤ 8 → odds (drop j (numbersOf d k ws)) ≤ 8
-  odds-small j h =
+  pub odds_small : (j : ℕ) → d ≤ 8 → odds (drop j (numbers_of d k ws)) ≤ 8
+  odds_small j h =
       omega (
         arith,
-        odds-le (drop j (numbersOf d k ws)),
-        length-drop j (numbersOf d k ws),
-        length-numbersOf d k ws,
+        odds_le (drop j (numbers_of d k ws)),
+        length-drop j (numbers_of d k ws),
+        length-numbers_of d k ws,
       )
 
 module _ (d k : ℕ) (ws : List ℕ) (j : ℕ) (some : 0 < j) (within : j ≤ d) where
   abbrev numbers : List ℕ
-  numbers = numbersOf d k ws
+  numbers = numbers_of d k ws
 
   inside : j - 1 < length numbers
-  inside = omega (arith, length-numbersOf d k ws)
+  inside = omega (arith, length-numbers_of d k ws)
 
   next : suc (j - 1) ≡ j
   next = omega arith
 
-  pub gathered-more : (i bits b : ℕ) → bits ≡ gathered (drop j numbers) i → b ≡ number_of (own k ws (j - 1)) / 2 ^ i % 2
+  pub gathered_more : (i bits b : ℕ) → bits ≡ gathered (drop j numbers) i → b ≡ number_of (own k ws (j - 1)) / 2 ^ i % 2
       → bits * 2 + b ≡ gathered (drop (j - 1) numbers) i
-  gathered-more i bits b e f =
+  gathered_more i bits b e f =
       ap₂ (λ a c. a * 2 + c)
       (e ∙ ap (λ m. gathered (drop m numbers) i) (sym next))
       (f ∙ ap (λ n. n / 2 ^ i % 2) (sym (number_at d k ws (j - 1) (omega arith))))
       ∙ sym (gathered-drop numbers i (j - 1) inside)
 
-  pub odds-more : (odd b : ℕ) → odd ≡ odds (drop j numbers) → b ≡ number_of (own k ws (j - 1)) / 2 ^ 0 % 2
+  pub odds_more : (odd b : ℕ) → odd ≡ odds (drop j numbers) → b ≡ number_of (own k ws (j - 1)) / 2 ^ 0 % 2
       → odd + b ≡ odds (drop (j - 1) numbers)
-  odds-more odd b e f =
+  odds_more odd b e f =
       omega (
         arith,
         ap (λ m. odds (drop m numbers)) next,

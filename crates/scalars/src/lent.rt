@@ -1,7 +1,7 @@
 // Scalars in lent words: d of them, ceil(l / 64) words of 64 bits each, lowest word first. Nothing here knows of plans.
 ghost use Rattle.std.specs.Prelude.{◌≡◌, ◌+◌, ◌*◌, ◌/◌, ◌%◌, ◌^◌, ◌≤◌, ◌<◌, ltb, length, take, drop};
 ghost use Rattle.ladder.specs.Lists.{all, odds};
-ghost use Rattle.ladder.specs.Numbers.{number_of, numbersOf, scalarWords};
+ghost use Rattle.ladder.specs.Numbers.{number_of, numbers_of, scalar_words};
 ghost use Rattle.ladder.specs.Refusals.{scalar};
 ghost use Rattle.scalars.specs.Inner.{Shaped, Fitting, gathered};
 
@@ -10,7 +10,7 @@ use refuse::{OK, SCALAR};
 // The words of one scalar: ceil(l / 64).
 pub fn scalar_words(l: usize) -> usize
     requires { l ≤ 576 }
-    ensures { result ≡ scalarWords l }
+    ensures { result ≡ scalar_words l }
 {
     (l + 63) / 64
 }
@@ -27,7 +27,7 @@ fn bit(k: usize, j: usize, i: usize, scalars: &[u64]) -> u64
 pub fn gather(d: usize, l: usize, i: usize, scalars: &[u64]) -> u64
     requires fitting { Fitting d l scalars.now }
     requires i_le_l { i ≤ l }
-    ensures { result ≡ gathered (numbersOf d (scalarWords l) scalars.now) i }
+    ensures { result ≡ gathered (numbers_of d (scalar_words l) scalars.now) i }
 {
     if i == l {
         return 0;
@@ -45,7 +45,7 @@ pub fn gather(d: usize, l: usize, i: usize, scalars: &[u64]) -> u64
 // How many scalars are odd.
 pub fn odd_count(d: usize, l: usize, scalars: &[u64]) -> u64
     requires { Shaped d l scalars.now }
-    ensures { result ≡ odds (numbersOf d (scalarWords l) scalars.now) }
+    ensures { result ≡ odds (numbers_of d (scalar_words l) scalars.now) }
 {
     let k = scalar_words(l);
     let mut odd: u64 = 0;
@@ -60,7 +60,7 @@ pub fn odd_count(d: usize, l: usize, scalars: &[u64]) -> u64
 // Whether every scalar is below 2^l. Of each only the top word matters, which has (l - 1) % 64 + 1 of the l bits.
 fn scalars_below(d: usize, l: usize, scalars: &[u64]) -> bool
     requires { Shaped d l scalars.now }
-    ensures { result ≡ all (λ n. ltb n (2 ^ l)) (numbersOf d (scalarWords l) scalars.now) }
+    ensures { result ≡ all (λ n. ltb n (2 ^ l)) (numbers_of d (scalar_words l) scalars.now) }
 {
     let k = scalar_words(l);
     let mut j = 0;
@@ -77,7 +77,7 @@ fn scalars_below(d: usize, l: usize, scalars: &[u64]) -> bool
 // Number 4 of the table: a scalar is 2^l or more.
 pub fn scalar_refusal(d: usize, l: usize, scalars: &[u64]) -> u64
     requires { Shaped d l scalars.now }
-    ensures { result ≡ scalar l (numbersOf d (scalarWords l) scalars.now) }
+    ensures { result ≡ scalar l (numbers_of d (scalar_words l) scalars.now) }
 {
     let below = scalars_below(d, l, scalars);
     if below { OK } else { SCALAR }

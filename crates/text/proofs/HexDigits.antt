@@ -8,24 +8,24 @@ use native.Mathlib.Nat.{pow-succ', one-le-pow, div-lt_iff_lt-mul, le-div_iff_mul
 use native.Mathlib.Omega.{arith}
 use lib.ListN.{length, get_or, length-map}
 use Rattle.ladder.specs.Numbers.{number_of}
-use Rattle.ladder.specs.Listing.{digitsOf, character, hexadecimal}
+use Rattle.ladder.specs.Listing.{digits_of, character, hexadecimal}
 use Rattle.ladder.proofs.Lists.{get_d_map}
-use Rattle.ladder.proofs.Numbers.{numberOf-below}
-use Rattle.ladder.proofs.Texts.{hex-power}
-use Rattle.ladder.proofs.Numerals.{digits-count, digits-length, digits-nth}
-use Rattle.ladder.proofs.Fields.{number-field}
+use Rattle.ladder.proofs.Numbers.{number_of_below}
+use Rattle.ladder.proofs.Texts.{hex_power}
+use Rattle.ladder.proofs.Numerals.{digits_count, digits_length, digits_nth}
+use Rattle.ladder.proofs.Fields.{number_field}
 
 -- Digit i, from the lowest, stands in word i / 16.
-pub hex-digit : (ws : List ℕ) → ((i : ℕ) → get_or ws i 0 < 2 ^ 64) → (i : ℕ)
+pub hex_digit : (ws : List ℕ) → ((i : ℕ) → get_or ws i 0 < 2 ^ 64) → (i : ℕ)
     → get_or ws (i / 16) 0 / 2 ^ (4 * (i % 16)) % 16 ≡ number_of ws / 16 ^ i % 16
-hex-digit ws words i =
+hex_digit ws words i =
     let parts : 64 * (i / 16) + 4 * (i % 16) ≡ 4 * i = omega arith in
-    sym (number-field ws words (i / 16) (4 * (i % 16)) 4 (omega arith))
-    ∙ ap (λ m. number_of ws / m % 16) (ap (λ e. 2 ^ e) parts ∙ sym (hex-power i))
+    sym (number_field ws words (i / 16) (4 * (i % 16)) 4 (omega arith))
+    ∙ ap (λ m. number_of ws / m % 16) (ap (λ e. 2 ^ e) parts ∙ sym (hex_power i))
 
-length-hexadecimal : (n : ℕ) → length (hexadecimal n) ≡ length (digitsOf 16 n)
+length-hexadecimal : (n : ℕ) → length (hexadecimal n) ≡ length (digits_of 16 n)
 unfolding hexadecimal
-length-hexadecimal n = length-map (digitsOf 16 n) character
+length-hexadecimal n = length-map (digits_of 16 n) character
 
 -- There are no digits but the lowest n.
 pub record Above (ws : List ℕ) (n : ℕ) : Type 0 where
@@ -34,13 +34,13 @@ pub record Above (ws : List ℕ) (n : ℕ) : Type 0 where
   pub below : number_of ws < 16 ^ n
 
 -- Words have 16 digits each.
-pub above-start : (ws : List ℕ) → ((i : ℕ) → get_or ws i 0 < 2 ^ 64) → 1 ≤ length ws → Above ws (16 * length ws)
-above-start ws words some =
+pub above_start : (ws : List ℕ) → ((i : ℕ) → get_or ws i 0 < 2 ^ 64) → 1 ≤ length ws → Above ws (16 * length ws)
+above_start ws words some =
     let all : 64 * length ws ≡ 4 * (16 * length ws) = omega arith in
     record {
       low = omega arith;
       high = omega arith;
-      below = rw (hex-power (16 * length ws), ← all) (numberOf-below (length ws) ws refl words);
+      below = rw (hex_power (16 * length ws), ← all) (number_of_below (length ws) ws refl words);
     }
 
 module _ {ws : List ℕ} {n : ℕ} (w : Above ws n) where
@@ -56,8 +56,8 @@ module _ {ws : List ℕ} {n : ℕ} (w : Above ws n) where
       (omega (arith, w.below, ap (λ e. 16 ^ e) last, pow-succ' 16 (n - 1)))
 
   -- Where the highest is 0, there is one less ..
-  pub above-next : 1 < n → number_of ws / 16 ^ (n - 1) % 16 ≡ 0 → Above ws (n - 1)
-  above-next h e = record {
+  pub above_next : 1 < n → number_of ws / 16 ^ (n - 1) % 16 ≡ 0 → Above ws (n - 1)
+  above_next h e = record {
     low = omega arith;
     high = omega (arith, w.high);
     below =
@@ -68,39 +68,39 @@ module _ {ws : List ℕ} {n : ℕ} (w : Above ws n) where
   }
 
   -- .. and where it is not, it is the first.
-  pub above-found : number_of ws / 16 ^ (n - 1) % 16 ≢ 0 → n ≡ length (hexadecimal (number_of ws))
-  above-found h =
+  pub above_found : number_of ws / 16 ^ (n - 1) % 16 ≢ 0 → n ≡ length (hexadecimal (number_of ws))
+  above_found h =
       sym
       (length-hexadecimal (number_of ws)
-      ∙ digits-count 16 (omega arith) (n - 1) (number_of ws) (rw last w.below)
+      ∙ digits_count 16 (omega arith) (n - 1) (number_of ws) (rw last w.below)
       (inr (omega (arith, (le-div_iff_mul-le {k = 16 ^ (n - 1)} {x = 1} {y = number_of ws} pos).0 (omega arith))))
       ∙ last)
 
   -- One digit is the only one.
-  pub above-end : n ≤ 1 → 1 ≡ length (hexadecimal (number_of ws))
-  above-end h =
+  pub above_end : n ≤ 1 → 1 ≡ length (hexadecimal (number_of ws))
+  above_end h =
       let one : n ≡ 1 = omega (arith, w.low) in
       sym
       (length-hexadecimal (number_of ws)
-      ∙ digits-count 16 (omega arith) 0 (number_of ws) (rw one at w.below) (inl refl))
+      ∙ digits_count 16 (omega arith) 0 (number_of ws) (rw one at w.below) (inl refl))
 
 -- Words have no more digits than 16 each.
-pub hex-within : (ws : List ℕ) → ((i : ℕ) → get_or ws i 0 < 2 ^ 64) → 1 ≤ length ws
+pub hex_within : (ws : List ℕ) → ((i : ℕ) → get_or ws i 0 < 2 ^ 64) → 1 ≤ length ws
     → length (hexadecimal (number_of ws)) ≤ 16 * length ws
-hex-within ws words some =
-    let all = above-start ws words some in
+hex_within ws words some =
+    let all = above_start ws words some in
     omega (
       arith,
       length-hexadecimal (number_of ws),
-      digits-length 16 (omega arith) (16 * length ws - 1) (number_of ws) (rw (last all) all.below),
+      digits_length 16 (omega arith) (16 * length ws - 1) (number_of ws) (rw (last all) all.below),
     )
 
 -- Character i, from the highest digit's on, is that of the digit in its place.
-pub hex-character : (n count i : ℕ) → count ≡ length (hexadecimal n) → i < count → {x : ℕ} → x ≡ n / 16 ^ (count - 1 - i) % 16
+pub hex_character : (n count i : ℕ) → count ≡ length (hexadecimal n) → i < count → {x : ℕ} → x ≡ n / 16 ^ (count - 1 - i) % 16
     → character x ≡ get_or (hexadecimal n) i 0
 unfolding hexadecimal
-hex-character n count i e h f =
-    let long : count ≡ length (digitsOf 16 n) = e ∙ length-hexadecimal n in
-    let here : i < length (digitsOf 16 n) = omega arith in
-    ap character (f ∙ ap (λ k. n / 16 ^ (k - 1 - i) % 16) long ∙ sym (digits-nth 16 (omega arith) n i here))
-    ∙ sym (get_d_map character (digitsOf 16 n) i 0 0 here)
+hex_character n count i e h f =
+    let long : count ≡ length (digits_of 16 n) = e ∙ length-hexadecimal n in
+    let here : i < length (digits_of 16 n) = omega arith in
+    ap character (f ∙ ap (λ k. n / 16 ^ (k - 1 - i) % 16) long ∙ sym (digits_nth 16 (omega arith) n i here))
+    ∙ sym (get_d_map character (digits_of 16 n) i 0 0 here)

@@ -11,8 +11,8 @@ use Rattle.ladder.proofs.Writes.{sets-append}
 use Rattle.text.specs.Inner.{Put}
 
 -- Nothing put.
-pub put-none : (text : List ℕ) (at : ℕ) → Put text at [] text at
-put-none text at = record { wrote = refl; place = sym (add-zero at) }
+pub put_none : (text : List ℕ) (at : ℕ) → Put text at [] text at
+put_none text at = record { wrote = refl; place = sym (add-zero at) }
 
 -- One character.
 pub put_one : (text : List ℕ) (at x : ℕ) {next : ℕ} → next ≡ at + 1 → Put text at (x ∷ []) (set text at x) next
@@ -31,9 +31,9 @@ module _ {text : List ℕ} {at : ℕ} {a : List ℕ} {middle : List ℕ} {betwee
   put_as e = subst (λ piece. Put text at piece middle between) e first
 
   -- The buffer keeps its length.
-  pub put-length : length middle ≡ length text
-  put-length = ap length first.wrote ∙ length-sets text at a
+  pub put_length : length middle ≡ length text
+  put_length = ap length first.wrote ∙ length-sets text at a
 
   -- Where both pieces fit, the second fits after the first.
-  pub put-room : (b : List ℕ) → at + length (a ++ b) ≤ length text → between + length b ≤ length middle
-  put-room b h = omega (arith, h, put-length, first.place, length-append a b)
+  pub put_room : (b : List ℕ) → at + length (a ++ b) ≤ length text → between + length b ≤ length middle
+  put_room b h = omega (arith, h, put_length, first.place, length-append a b)

@@ -1,7 +1,7 @@
 // The line of the decoded values.
 ghost use Rattle.std.specs.Prelude.{◌∷◌, map, take, drop, ◌*◌};
-ghost use Rattle.ladder.specs.Numbers.{number_of, numbersOf};
-ghost use Rattle.ladder.specs.Listing.{line, valueWord, hexadecimal};
+ghost use Rattle.ladder.specs.Numbers.{number_of, numbers_of};
+ghost use Rattle.ladder.specs.Listing.{line, value_word, hexadecimal};
 ghost use Rattle.text.specs.Inner.{Fits, Put, ValuesIn, ValueIn};
 
 use crate::hexadecimal::put_hexadecimal;
@@ -20,8 +20,8 @@ fn put_value(values: &[u64], k: usize, j: usize, text: &mut [u8], at: usize) -> 
 
 // `value` and d values of k words each.
 pub fn put_value_line(values: &[u64], d: usize, k: usize, text: &mut [u8], at: usize) -> usize
-    requires { ValuesIn d k values.now × Fits text.old at (line valueWord (map hexadecimal (numbersOf d k values.now))) }
-    ensures { Put text.old at (line valueWord (map hexadecimal (numbersOf d k values.now))) text.new result }
+    requires { ValuesIn d k values.now × Fits text.old at (line value_word (map hexadecimal (numbers_of d k values.now))) }
+    ensures { Put text.old at (line value_word (map hexadecimal (numbers_of d k values.now))) text.new result }
 {
     let mut next = put_bytes(b"value", text, at);
     let mut j: usize = 0;

@@ -1,6 +1,6 @@
 // The lines of a plan.
-ghost use Rattle.ladder.specs.Plan.{planLent};
-ghost use Rattle.ladder.specs.Listing.{planText, valueLine};
+ghost use Rattle.ladder.specs.Plan.{plan_lent};
+ghost use Rattle.ladder.specs.Listing.{plan_text, value_line};
 ghost use Rattle.text.specs.Inner.{Decodable, Listable, Put};
 
 use crate::decoded::put_value_line;
@@ -19,8 +19,8 @@ fn put_decoded(
     text: &mut [u8],
     at: usize,
 ) -> usize
-    requires { Decodable (planLent d l start.now bits.now row) text.old at }
-    ensures { Put text.old at (valueLine (planLent d l start.now bits.now row)) text.new result }
+    requires { Decodable (plan_lent d l start.now bits.now row) text.old at }
+    ensures { Put text.old at (value_line (plan_lent d l start.now bits.now row)) text.new result }
 {
     let columns = d as usize;
     let words = value_words(l as usize);
@@ -34,8 +34,8 @@ fn put_decoded(
 
 // The lines of a plan that is not refused.
 pub fn put_plan(d: u64, l: u64, start: &[u8], bits: &[u8], row: u64, text: &mut [u8]) -> usize
-    requires { Listable (planLent d l start.now bits.now row) text.old }
-    ensures { Put text.old 0 (planText (planLent d l start.now bits.now row)) text.new result }
+    requires { Listable (plan_lent d l start.now bits.now row) text.old }
+    ensures { Put text.old 0 (plan_text (plan_lent d l start.now bits.now row)) text.new result }
 {
     let first = put_plan_line(d, l, row, text, 0);
     let second = put_start_line(start, text, first);

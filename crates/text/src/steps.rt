@@ -3,7 +3,7 @@ ghost use Rattle.std.specs.Prelude.{map};
 ghost use Rattle.ladder.specs.Lists.{joined};
 ghost use Rattle.ladder.specs.Numbers.{bits_at};
 ghost use Rattle.ladder.specs.Listing.{character};
-ghost use Rattle.text.specs.Inner.{Fits, Put, StepIn, StepsIn, stepText};
+ghost use Rattle.text.specs.Inner.{Fits, Put, StepIn, StepsIn, step_text};
 
 use crate::decimal::put_decimal;
 use crate::put::{character, put_bytes};
@@ -25,8 +25,8 @@ fn put_bits(bits: &[u8], d: usize, s: usize, text: &mut [u8], at: usize) -> usiz
 
 // The number of step s (from 0), counted from 1, and its bits.
 fn put_step_line(bits: &[u8], d: usize, s: usize, text: &mut [u8], at: usize) -> usize
-    requires { StepIn d s bits.now × Fits text.old at (stepText d bits.now s) }
-    ensures { Put text.old at (stepText d bits.now s) text.new result }
+    requires { StepIn d s bits.now × Fits text.old at (step_text d bits.now s) }
+    ensures { Put text.old at (step_text d bits.now s) text.new result }
 {
     let number = put_decimal(s as u64 + 1, text, at);
     let space = put_bytes(b" ", text, number);
@@ -36,8 +36,8 @@ fn put_step_line(bits: &[u8], d: usize, s: usize, text: &mut [u8], at: usize) ->
 
 // The lines of steps 1 to l.
 pub fn put_step_lines(bits: &[u8], d: usize, l: usize, text: &mut [u8], at: usize) -> usize
-    requires { StepsIn d l bits.now × Fits text.old at (joined l (stepText d bits.now)) }
-    ensures { Put text.old at (joined l (stepText d bits.now)) text.new result }
+    requires { StepsIn d l bits.now × Fits text.old at (joined l (step_text d bits.now)) }
+    ensures { Put text.old at (joined l (step_text d bits.now)) text.new result }
 {
     let mut next = at;
     let mut s: usize = 0;

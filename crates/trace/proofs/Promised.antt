@@ -5,36 +5,36 @@ use mathlib.Core.Path.{◌≡◌, sym, subst, ◌∙◌}
 use mathlib.Core.Logic.{◌≢◌, ◌↔◌}
 use mathlib.Core.List.{List}
 use Rattle.ladder.specs.Plan.{Plan}
-use Rattle.ladder.specs.Trace.{entriesIn, traceBytes}
-use Rattle.ladder.proofs.Tests.{refusing-no, refusing-yes}
-use Rattle.ladder.proofs.Operations.{TraceOk, trace-none}
-use Rattle.ladder.proofs.Trace.{trace-doublings, trace-additions}
+use Rattle.ladder.specs.Trace.{entries_in, trace_bytes}
+use Rattle.ladder.proofs.Tests.{refusing_no, refusing_yes}
+use Rattle.ladder.proofs.Operations.{TraceOk, trace_none}
+use Rattle.ladder.proofs.Trace.{trace_doublings, trace_additions}
 use Rattle.trace.specs.declared.call.Traced.{Traced}
 use Rattle.trace.specs.Promise.{TracePromise}
 
 module _ {p : Plan} {trace : List ℕ} {r : Traced} {traceAfter : List ℕ} (promise : TracePromise p trace r traceAfter) where
   -- Trace's refusal is 0 exactly where the plan and the buffers are what it asks ..
-  pub trace-accepts : r.refusal ≡ 0 ↔ TraceOk p trace
-  trace-accepts = subst (λ n. n ≡ 0 ↔ TraceOk p trace) (sym promise.refusal_is) (trace-none p trace)
+  pub trace_accepts : r.refusal ≡ 0 ↔ TraceOk p trace
+  trace_accepts = subst (λ n. n ≡ 0 ↔ TraceOk p trace) (sym promise.refusal_is) (trace_none p trace)
 
   -- .. then the refusal is 0, and every entry is written ..
-  pub trace-accepted : TraceOk p trace → (r.refusal ≡ 0) × (traceAfter ≡ traceBytes (entriesIn p))
-  trace-accepted ok =
-      let none = trace-accepts.1 ok in
-      (none, promise.trace-is ∙ refusing-no _ _ _ none)
+  pub trace_accepted : TraceOk p trace → (r.refusal ≡ 0) × (traceAfter ≡ trace_bytes (entries_in p))
+  trace_accepted ok =
+      let none = trace_accepts.1 ok in
+      (none, promise.trace_is ∙ refusing_no _ _ _ none)
 
   -- .. l doublings and l * d additions ..
-  pub trace-counts : TraceOk p trace → (r.doublings ≡ p.l) × (r.additions ≡ p.l * p.d)
-  trace-counts ok =
-      let none = trace-accepts.1 ok in (
-        promise.doublings-are ∙ refusing-no _ _ _ none ∙ trace-doublings p,
-        promise.additions-are ∙ refusing-no _ _ _ none ∙ trace-additions p,
+  pub trace_counts : TraceOk p trace → (r.doublings ≡ p.l) × (r.additions ≡ p.l * p.d)
+  trace_counts ok =
+      let none = trace_accepts.1 ok in (
+        promise.doublings_are ∙ refusing_no _ _ _ none ∙ trace_doublings p,
+        promise.additions_are ∙ refusing_no _ _ _ none ∙ trace_additions p,
       )
 
   -- .. and on refusal nothing is written or counted.
-  pub trace-refused : r.refusal ≢ 0 → (r.doublings ≡ 0) × (r.additions ≡ 0) × (traceAfter ≡ trace)
-  trace-refused some = (
-    promise.doublings-are ∙ refusing-yes _ _ _ some,
-    promise.additions-are ∙ refusing-yes _ _ _ some,
-    promise.trace-is ∙ refusing-yes _ _ _ some,
+  pub trace_refused : r.refusal ≢ 0 → (r.doublings ≡ 0) × (r.additions ≡ 0) × (traceAfter ≡ trace)
+  trace_refused some = (
+    promise.doublings_are ∙ refusing_yes _ _ _ some,
+    promise.additions_are ∙ refusing_yes _ _ _ some,
+    promise.trace_is ∙ refusing_yes _ _ _ some,
   )

@@ -9,11 +9,11 @@ use Rattle.trace.specs.declared.call.Traced.{Traced}
 use Rattle.trace.specs.Promise.{TracePromise}
 
 -- Two answers with two outputs that trace could give and leave on the same input are equal.
-pub trace-unique : {p : Plan} {trace : List ℕ} {r s : Traced} {traceAfter traceOther : List ℕ}
+pub trace_unique : {p : Plan} {trace : List ℕ} {r s : Traced} {traceAfter traceOther : List ℕ}
     → TracePromise p trace r traceAfter → TracePromise p trace s traceOther → (r ≡ s) × (traceAfter ≡ traceOther)
-trace-unique {r = r} {s} x y =
+trace_unique {r = r} {s} x y =
     let n = x.refusal_is ∙ sym y.refusal_is in (
-      ap₂ (λ m a. record { refusal = m; doublings = a; additions = r.additions }) n (refusing-same _ _ n x.doublings-are y.doublings-are)
-          ∙ ap (λ b. record { refusal = s.refusal; doublings = s.doublings; additions = b }) (refusing-same _ _ n x.additions-are y.additions-are),
-      refusing-same _ _ n x.trace-is y.trace-is,
+      ap₂ (λ m a. record { refusal = m; doublings = a; additions = r.additions }) n (refusing-same _ _ n x.doublings_are y.doublings_are)
+          ∙ ap (λ b. record { refusal = s.refusal; doublings = s.doublings; additions = b }) (refusing-same _ _ n x.additions_are y.additions_are),
+      refusing-same _ _ n x.trace_is y.trace_is,
     )

@@ -2,15 +2,15 @@
 -- Assumes nothing.
 use Rattle.std.specs.Prelude.{ℕ, ◌≡◌, List}
 use Rattle.ladder.specs.Plan.{Plan}
-use Rattle.ladder.specs.Trace.{entriesIn, traceBytes, doublings, additionCount}
-use Rattle.ladder.specs.Refusals.{refusing, traceRefusal}
+use Rattle.ladder.specs.Trace.{entries_in, trace_bytes, doublings, addition_count}
+use Rattle.ladder.specs.Refusals.{refusing, trace_refusal}
 use Rattle.trace.specs.declared.call.Traced.{Traced}
 
 -- Trace, of the plan p, with the trace buffer as it comes and as it is left: the bytes of its entries, whose vectors are rows of the
 -- matrix before each step, and the counts of these entries; on refusal zeros, and the buffer as it came. With d 2, l 2, start order 1 2,
 -- bits B0, row 2 and room for 24 bytes: refusal 0, 2 doublings, 4 additions, and bytes that begin 02 02 00 00, 01 02 01 00.
 pub record TracePromise (p : Plan) (trace : List ℕ) (r : Traced) (traceAfter : List ℕ) : Type 0 where
-  pub refusal_is : r.refusal ≡ traceRefusal p trace
-  pub doublings-are : r.doublings ≡ refusing r.refusal 0 (doublings (entriesIn p))
-  pub additions-are : r.additions ≡ refusing r.refusal 0 (additionCount (entriesIn p))
-  pub trace-is : traceAfter ≡ refusing r.refusal trace (traceBytes (entriesIn p))
+  pub refusal_is : r.refusal ≡ trace_refusal p trace
+  pub doublings_are : r.doublings ≡ refusing r.refusal 0 (doublings (entries_in p))
+  pub additions_are : r.additions ≡ refusing r.refusal 0 (addition_count (entries_in p))
+  pub trace_is : traceAfter ≡ refusing r.refusal trace (trace_bytes (entries_in p))

@@ -1,11 +1,11 @@
 // One step of the walk, with its entries.
 ghost use Rattle.std.specs.Prelude.{◌≡◌, map, pred, ◌+◌, ◌*◌, ◌≤◌, length, take};
 ghost use Rattle.std.proofs.lemmas.List.Edits.{sets};
-ghost use Rattle.ladder.specs.Walk.{bits_of, stepWalk};
-ghost use Rattle.ladder.specs.Trace.{traceBytes};
-ghost use Rattle.walk.specs.WalkState.{walkState};
+ghost use Rattle.ladder.specs.Walk.{bits_of, step_walk};
+ghost use Rattle.ladder.specs.Trace.{trace_bytes};
+ghost use Rattle.walk.specs.WalkState.{walk_state};
 ghost use Rattle.bits.specs.Ready.{Ready};
-ghost use Rattle.bits.specs.WalkBlock.{walkBlock};
+ghost use Rattle.bits.specs.WalkBlock.{walk_block};
 
 use crate::entry::write_entry;
 use bits::{bit, ones_in};
@@ -14,8 +14,8 @@ use walk::Walk;
 // Writes the doubling and the d additions of a step with the bits in r, from place `at` on, and answers the walk after the step. The
 // vectors are made of the signs before it: each addition fills in one more, of the column at the next place of the new order.
 pub fn write_block(w: Walk, r: u64, out: &mut [u8], at: usize) -> Walk
-    requires { Ready (walkState w) × (at + (w.d + 1) * (w.d + 2) ≤ length out.old) }
-    ensures { (walkState result ≡ stepWalk (walkState w) r) × (out.new ≡ sets out.old at (traceBytes (walkBlock w.d (take w.d w.signs) (map pred (take w.d result.order)) (bits_of w.d r)))) }
+    requires { Ready (walk_state w) × (at + (w.d + 1) * (w.d + 2) ≤ length out.old) }
+    ensures { (walk_state result ≡ step_walk (walk_state w) r) × (out.new ≡ sets out.old at (trace_bytes (walk_block w.d (take w.d w.signs) (map pred (take w.d result.order)) (bits_of w.d r)))) }
 {
     let d = w.d as usize;
     let old = w.order;

@@ -1,5 +1,5 @@
 // The public call `trace`.
-ghost use Rattle.ladder.specs.Plan.{planLent};
+ghost use Rattle.ladder.specs.Plan.{plan_lent};
 ghost use Rattle.trace.specs.Promise.{TracePromise};
 
 use crate::steps::trace_steps;
@@ -15,7 +15,7 @@ pub struct Traced {
 
 // The trace of a plan: for each step its doubling and its d additions, each x, y and the difference of the two rows.
 pub fn trace(d: u64, l: u64, start: &[u8], bits: &[u8], row: u64, out: &mut [u8]) -> Traced
-    ensures { TracePromise (planLent d l start.now bits.now row) out.old result out.new }
+    ensures { TracePromise (plan_lent d l start.now bits.now row) out.old result out.new }
 {
     let refusal = loose_refusal(d, l, start, bits, row, Beside::Trace(out.len()));
     if refusal != refuse::OK {

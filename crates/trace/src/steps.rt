@@ -1,7 +1,7 @@
 // The trace of a range of steps.
 ghost use Rattle.std.specs.Prelude.{◌-◌};
-ghost use Rattle.walk.specs.WalkState.{walkState};
-ghost use Rattle.trace.specs.Inner.{walkEntries, CanTrace, TraceLeft};
+ghost use Rattle.walk.specs.WalkState.{walk_state};
+ghost use Rattle.trace.specs.Inner.{walk_entries, CanTrace, TraceLeft};
 
 use crate::block::write_block;
 use bits::step_bits;
@@ -16,8 +16,8 @@ pub struct Counts {
 
 // Writes the entries of steps `from` to `to` - 1 (from 0) of a walk that stands before step `from`, and answers what it wrote.
 pub fn trace_steps(w: Walk, bits: &[u8], from: u64, to: u64, out: &mut [u8]) -> Counts
-    requires { CanTrace (walkState w) bits.now from to out.old }
-    ensures { TraceLeft (walkEntries (walkState w) bits.now from (to - from)) out.new result.doublings result.additions }
+    requires { CanTrace (walk_state w) bits.now from to out.old }
+    ensures { TraceLeft (walk_entries (walk_state w) bits.now from (to - from)) out.new result.doublings result.additions }
 {
     let end = to as usize;
     let mut s = from as usize;

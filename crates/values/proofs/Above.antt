@@ -4,12 +4,12 @@ use Rattle.std.proofs.Common.{◌≡◌, ℕ, suc, ◌+◌, ◌-◌, ◌<◌, �
 use native.Mathlib.Decide.{ℕ_discrete, dec_le}
 use lib.ListN.{get_or-eq_default}
 use Rattle.ladder.specs.Lists.{count, same}
-use Rattle.ladder.proofs.Lists.{getD-zeros, same-is, count-append}
+use Rattle.ladder.proofs.Lists.{get_or_zeros, same_is, count-append}
 
-count-le : (j : ℕ) (s : List ℕ) → count j s ≤ length s
+count_le : (j : ℕ) (s : List ℕ) → count j s ≤ length s
 unfolding count
-count-le j [] = omega arith
-count-le j (i ∷ s) = omega (arith, same-is i j, count-le j s)
+count_le j [] = omega arith
+count_le j (i ∷ s) = omega (arith, same_is i j, count_le j s)
 
 -- What is counted when i places are passed.
 pub record Above (order above : List ℕ) (i : ℕ) : Type 0 where
@@ -17,13 +17,13 @@ pub record Above (order above : List ℕ) (i : ℕ) : Type 0 where
   pub counts : (j : ℕ) → j < 8 → get_or above j 0 ≡ count (suc j) (take i order)
 
 -- No place is passed.
-pub above-none : (order : List ℕ) → Above order (replicate 8 0) 0
+pub above_none : (order : List ℕ) → Above order (replicate 8 0) 0
 unfolding count
-above-none order = record { long = refl; counts = λ j h. getD-zeros 8 j }
+above_none order = record { long = refl; counts = λ j h. get_or_zeros 8 j }
 
 -- A count is at most the places passed.
-pub above-few : (order above : List ℕ) (i j : ℕ) → Above order above i → j < 8 → get_or above j 0 ≤ i
-above-few order above i j a h = omega (arith, a.counts j h, count-le (suc j) (take i order), length-take i order)
+pub above_few : (order above : List ℕ) (i j : ℕ) → Above order above i → j < 8 → get_or above j 0 ≤ i
+above_few order above i j a h = omega (arith, a.counts j h, count_le (suc j) (take i order), length-take i order)
 
 place_inside : (order : List ℕ) (i : ℕ) → 1 ≤ get_or order i 0 → i < length order
 place_inside order i low = go (dec_le (suc i) (length order))
@@ -32,17 +32,17 @@ place_inside order i low = go (dec_le (suc i) (length order))
     go (yes h) = h
     go (no h) = absurd (omega (arith, get_or-eq_default order 0 {n = i} (omega arith)))
 
-count-place : (order : List ℕ) (i c : ℕ) → i < length order → count c (take (i + 1) order) ≡ count c (take i order) + same (get_or order i 0) c
+count_place : (order : List ℕ) (i c : ℕ) → i < length order → count c (take (i + 1) order) ≡ count c (take i order) + same (get_or order i 0) c
 unfolding count
-count-place order i c h =
+count_place order i c h =
     ap (λ n. count c (take n order)) (add-one i) ∙ ap (count c) (take-suc order i 0 h)
     ∙ count-append c (take i order) (get_or order i 0 ∷ []) ∙ omega arith
 
-pub above-next : (order above : List ℕ) (i : ℕ) → Above order above i → 1 ≤ get_or order i 0 → get_or order i 0 ≤ 8
+pub above_next : (order above : List ℕ) (i : ℕ) → Above order above i → 1 ≤ get_or order i 0 → get_or order i 0 ≤ 8
     → Above order (set above (get_or order i 0 - 1) (get_or above (get_or order i 0 - 1) 0 + 1)) (i + 1)
-above-next order above i a low high = record {
+above_next order above i a low high = record {
   long = length-set above (get_or order i 0 - 1) _ ∙ a.long;
-  counts = λ j h. at j h (ℕ_discrete j (get_or order i 0 - 1)) ∙ sym (count-place order i (suc j) (place_inside order i low));
+  counts = λ j h. at j h (ℕ_discrete j (get_or order i 0 - 1)) ∙ sym (count_place order i (suc j) (place_inside order i low));
 }
   where
     at : (j : ℕ) → j < 8 → Dec (j ≡ get_or order i 0 - 1)
@@ -51,7 +51,7 @@ above-next order above i a low high = record {
     at j h (yes e) =
         ap (λ n. get_or (set above (get_or order i 0 - 1) (get_or above (get_or order i 0 - 1) 0 + 1)) n 0) e
         ∙ get_or-set_same above (get_or order i 0 - 1) _ 0 (omega (arith, a.long))
-        ∙ omega (arith, ap (λ n. get_or above n 0) e, a.counts j h, same-is (get_or order i 0) (suc j))
+        ∙ omega (arith, ap (λ n. get_or above n 0) e, a.counts j h, same_is (get_or order i 0) (suc j))
     at j h (no e) =
         get_or-set_other above (get_or order i 0 - 1) j _ 0 e
-        ∙ omega (arith, a.counts j h, same-is (get_or order i 0) (suc j))
+        ∙ omega (arith, a.counts j h, same_is (get_or order i 0) (suc j))

@@ -6,44 +6,44 @@ use borrow.Rule.Slice.PartMut.{put_mid, Post-is}
 use native.Mathlib.Decide.{ℕ_discrete, dec_le}
 use lib.Seq.{take-append-add, drop-append-add}
 use Rattle.ladder.specs.Lists.{tabulate}
-use Rattle.ladder.specs.Numbers.{number_of, numbersOf, words_of, wordsOfAll}
-use Rattle.ladder.proofs.Lists.{length-tabulate, get_d_tabulate, tabulate-same, tabulate-getD}
-use Rattle.ladder.proofs.Numbers.{length-wordsOf, numberOf-wordsOf, length-wordsOfAll, length-numbersOf, wordsOfAll-numbersOf}
-use Rattle.values.specs.Inner.{OneRaisable, raisedOne, Raisable, raised}
+use Rattle.ladder.specs.Numbers.{number_of, numbers_of, words_of, words_of_all}
+use Rattle.ladder.proofs.Lists.{length-tabulate, get_d_tabulate, tabulate-same, tabulate-get_or}
+use Rattle.ladder.proofs.Numbers.{length-words_of, number_of-words_of, length-words_of_all, length-numbers_of, words_of_all-numbers_of}
+use Rattle.values.specs.Inner.{OneRaisable, raised_one, Raisable, raised}
 
 -- ---- the words of one value among many
 
 -- The words of value j ..
-part_of : (k : ℕ) (ns : List ℕ) (j : ℕ) → j < length ns → take k (drop (j * k) (wordsOfAll k ns)) ≡ words_of k (get_or ns j 0)
-unfolding wordsOfAll flatten
+part_of : (k : ℕ) (ns : List ℕ) (j : ℕ) → j < length ns → take k (drop (j * k) (words_of_all k ns)) ≡ words_of k (get_or ns j 0)
+unfolding words_of_all flatten
 part_of k [] j h = absurd (not-suc-le-zero h)
 part_of k (n ∷ ns) zero h =
-    ap (λ m. take k (drop m (words_of k n ++ wordsOfAll k ns))) (zero-mul k)
-    ∙ take_at (words_of k n) (wordsOfAll k ns) k (length-wordsOf k n)
+    ap (λ m. take k (drop m (words_of k n ++ words_of_all k ns))) (zero-mul k)
+    ∙ take_at (words_of k n) (words_of_all k ns) k (length-words_of k n)
 part_of k (n ∷ ns) (suc j) h =
-    let e : suc j * k ≡ length (words_of k n) + j * k = omega (arith, suc-mul j k, length-wordsOf k n) in
-    ap (λ m. take k (drop m (words_of k n ++ wordsOfAll k ns))) e
-    ∙ ap (take k) (drop-append-add (words_of k n) (wordsOfAll k ns) (j * k))
+    let e : suc j * k ≡ length (words_of k n) + j * k = omega (arith, suc-mul j k, length-words_of k n) in
+    ap (λ m. take k (drop m (words_of k n ++ words_of_all k ns))) e
+    ∙ ap (take k) (drop-append-add (words_of k n) (words_of_all k ns) (j * k))
     ∙ part_of k ns j (le_of_suc-le-suc h)
 
 -- .. replaced by those of another number.
-part-set : (k : ℕ) (ns : List ℕ) (j x : ℕ) → j < length ns
-    → take (j * k) (wordsOfAll k ns) ++ (words_of k x ++ drop (j * k + k) (wordsOfAll k ns)) ≡ wordsOfAll k (set ns j x)
-unfolding wordsOfAll flatten
-part-set k [] j x h = absurd (not-suc-le-zero h)
-part-set k (n ∷ ns) zero x h =
+part_set : (k : ℕ) (ns : List ℕ) (j x : ℕ) → j < length ns
+    → take (j * k) (words_of_all k ns) ++ (words_of k x ++ drop (j * k + k) (words_of_all k ns)) ≡ words_of_all k (set ns j x)
+unfolding words_of_all flatten
+part_set k [] j x h = absurd (not-suc-le-zero h)
+part_set k (n ∷ ns) zero x h =
     let e : zero * k + k ≡ k = omega (arith, zero-mul k) in
-    ap₂ (λ a b. take a (words_of k n ++ wordsOfAll k ns) ++ (words_of k x ++ drop b (words_of k n ++ wordsOfAll k ns))) (zero-mul k) e
-    ∙ ap (λ t. words_of k x ++ t) (drop_at (words_of k n) (wordsOfAll k ns) k (length-wordsOf k n))
-part-set k (n ∷ ns) (suc j) x h =
+    ap₂ (λ a b. take a (words_of k n ++ words_of_all k ns) ++ (words_of k x ++ drop b (words_of k n ++ words_of_all k ns))) (zero-mul k) e
+    ∙ ap (λ t. words_of k x ++ t) (drop_at (words_of k n) (words_of_all k ns) k (length-words_of k n))
+part_set k (n ∷ ns) (suc j) x h =
     let A = words_of k n in
-    let B = wordsOfAll k ns in
-    let e : suc j * k ≡ length A + j * k = omega (arith, suc-mul j k, length-wordsOf k n) in
-    let f : suc j * k + k ≡ length A + (j * k + k) = omega (arith, suc-mul j k, length-wordsOf k n) in
+    let B = words_of_all k ns in
+    let e : suc j * k ≡ length A + j * k = omega (arith, suc-mul j k, length-words_of k n) in
+    let f : suc j * k + k ≡ length A + (j * k + k) = omega (arith, suc-mul j k, length-words_of k n) in
     ap₂ (λ a b. take a (A ++ B) ++ (words_of k x ++ drop b (A ++ B))) e f
     ∙ ap₂ (λ s t. s ++ (words_of k x ++ t)) (take-append-add A B (j * k)) (drop-append-add A B (j * k + k))
     ∙ append_assoc A (take (j * k) B) (words_of k x ++ drop (j * k + k) B)
-    ∙ ap (λ t. A ++ t) (part-set k ns j x (le_of_suc-le-suc h))
+    ∙ ap (λ t. A ++ t) (part_set k ns j x (le_of_suc-le-suc h))
 
 -- ---- values raised one by one
 
@@ -54,57 +54,57 @@ up_to j x i = cond (ltb i j) (x i) 0
 done : (j : ℕ) (x : ℕ → ℕ) (i : ℕ) → i < j → up_to j x i ≡ x i
 done j x i h = ap (λ t. cond t (x i) 0) (lt-ltb i j h)
 
-to-do : (j : ℕ) (x : ℕ → ℕ) (i : ℕ) → j ≤ i → up_to j x i ≡ 0
-to-do j x i h = ap (λ t. cond t (x i) 0) (le-ltb i j h)
+to_do : (j : ℕ) (x : ℕ → ℕ) (i : ℕ) → j ≤ i → up_to j x i ≡ 0
+to_do j x i h = ap (λ t. cond t (x i) 0) (le-ltb i j h)
 
 -- The values when those before j are done.
-abbrev pub raisedTo : ℕ → (ℕ → ℕ) → (ℕ → ℕ) → ℕ → List ℕ
-raisedTo d n x j = tabulate d (λ i. n i + up_to j x i)
+abbrev pub raised_to : ℕ → (ℕ → ℕ) → (ℕ → ℕ) → ℕ → List ℕ
+raised_to d n x j = tabulate d (λ i. n i + up_to j x i)
 
-same-upTo : (x : ℕ → ℕ) (i j : ℕ) → i ≢ j → up_to (j + 1) x i ≡ up_to j x i
-same-upTo x i j ne = go (dec_le (suc i) j)
+same_up_to : (x : ℕ → ℕ) (i j : ℕ) → i ≢ j → up_to (j + 1) x i ≡ up_to j x i
+same_up_to x i j ne = go (dec_le (suc i) j)
   where
     go : Dec (i < j) → up_to (j + 1) x i ≡ up_to j x i
     go (yes h) = done (j + 1) x i (omega arith) ∙ sym (done j x i h)
-    go (no h) = to-do (j + 1) x i (omega arith) ∙ sym (to-do j x i (omega arith))
+    go (no h) = to_do (j + 1) x i (omega arith) ∙ sym (to_do j x i (omega arith))
 
-raised-set : (d : ℕ) (n x : ℕ → ℕ) (j : ℕ) → j < d → set (raisedTo d n x j) j (n j + x j) ≡ raisedTo d n x (j + 1)
+raised-set : (d : ℕ) (n x : ℕ → ℕ) (j : ℕ) → j < d → set (raised_to d n x j) j (n j + x j) ≡ raised_to d n x (j + 1)
 raised-set d n x j h =
-    let R = raisedTo d n x j in
+    let R = raised_to d n x j in
     let long = length-tabulate d (λ i. n i + up_to j x i) in
-    ext_get_or 0 (set R j (n j + x j)) (raisedTo d n x (j + 1))
+    ext_get_or 0 (set R j (n j + x j)) (raised_to d n x (j + 1))
     (length-set R j (n j + x j) ∙ long ∙ sym (length-tabulate d (λ i. n i + up_to (j + 1) x i)))
     (λ i b. at i (omega (arith, length-set R j (n j + x j), long)) (ℕ_discrete i j))
   where
-    at : (i : ℕ) → i < d → Dec (i ≡ j) → get_or (set (raisedTo d n x j) j (n j + x j)) i 0 ≡ get_or (raisedTo d n x (j + 1)) i 0
+    at : (i : ℕ) → i < d → Dec (i ≡ j) → get_or (set (raised_to d n x j) j (n j + x j)) i 0 ≡ get_or (raised_to d n x (j + 1)) i 0
     at i b (yes e) =
-        ap (λ m. get_or (set (raisedTo d n x j) j (n j + x j)) m 0) e
-        ∙ get_or-set_same (raisedTo d n x j) j (n j + x j) 0 (omega (arith, length-tabulate d (λ i. n i + up_to j x i)))
+        ap (λ m. get_or (set (raised_to d n x j) j (n j + x j)) m 0) e
+        ∙ get_or-set_same (raised_to d n x j) j (n j + x j) 0 (omega (arith, length-tabulate d (λ i. n i + up_to j x i)))
         ∙ sym
-        (ap (λ m. get_or (raisedTo d n x (j + 1)) m 0) e
+        (ap (λ m. get_or (raised_to d n x (j + 1)) m 0) e
         ∙ get_d_tabulate d (λ i. n i + up_to (j + 1) x i) j 0 h
         ∙ ap (λ m. n j + m) (done (j + 1) x j (omega arith)))
     at i b (no e) =
-        get_or-set_other (raisedTo d n x j) j i (n j + x j) 0 e
+        get_or-set_other (raised_to d n x j) j i (n j + x j) 0 e
         ∙ get_d_tabulate d (λ i. n i + up_to j x i) i 0 b
-        ∙ sym (get_d_tabulate d (λ i. n i + up_to (j + 1) x i) i 0 b ∙ ap (λ m. n i + m) (same-upTo x i j e))
+        ∙ sym (get_d_tabulate d (λ i. n i + up_to (j + 1) x i) i 0 b ∙ ap (λ m. n i + m) (same_up_to x i j e))
 
 -- Nothing to add: the value stays.
-raised-skip : (d : ℕ) (n x : ℕ → ℕ) (j : ℕ) → x j ≡ 0 → raisedTo d n x j ≡ raisedTo d n x (j + 1)
-raised-skip d n x j z =
+raised_skip : (d : ℕ) (n x : ℕ → ℕ) (j : ℕ) → x j ≡ 0 → raised_to d n x j ≡ raised_to d n x (j + 1)
+raised_skip d n x j z =
     tabulate-same d (λ i. n i + up_to j x i) (λ i. n i + up_to (j + 1) x i) (λ i h. ap (λ m. n i + m) (at i (ℕ_discrete i j)))
   where
     at : (i : ℕ) → Dec (i ≡ j) → up_to j x i ≡ up_to (j + 1) x i
-    at i (yes e) = to-do j x i (omega arith) ∙ sym (done (j + 1) x i (omega arith) ∙ ap x e ∙ z)
-    at i (no e) = sym (same-upTo x i j e)
+    at i (yes e) = to_do j x i (omega arith) ∙ sym (done (j + 1) x i (omega arith) ∙ ap x e ∙ z)
+    at i (no e) = sym (same_up_to x i j e)
 
 -- ---- one value raised
 
 span : (j k : ℕ) → j * k + k - j * k ≡ k
 span j k = omega arith
 
-part-long : (k j : ℕ) (values : List ℕ) → j * k + k ≤ length values → length (take (j * k + k - j * k) (drop (j * k) values)) ≡ k
-part-long k j values h =
+part_long : (k j : ℕ) (values : List ℕ) → j * k + k ≤ length values → length (take (j * k + k - j * k) (drop (j * k) values)) ≡ k
+part_long k j values h =
     ap (λ n. length (take n (drop (j * k) values))) (span j k)
     ∙ length-take-le k (drop (j * k) values) (omega (arith, length-drop (j * k) values))
 
@@ -112,31 +112,31 @@ part-long k j values h =
 pub part_room : (k j : ℕ) (values : List ℕ) → OneRaisable k j values
     → number_of (take (j * k + k - j * k) (drop (j * k) values)) + 1 < 2 ^ (64 * length (take (j * k + k - j * k) (drop (j * k) values)))
 part_room k j values p =
-    subst₂ (λ n m. number_of (take n (drop (j * k) values)) + 1 < 2 ^ (64 * m)) (sym (span j k)) (sym (part-long k j values p.inside)) p.room
+    subst₂ (λ n m. number_of (take n (drop (j * k) values)) + 1 < 2 ^ (64 * m)) (sym (span j k)) (sym (part_long k j values p.inside)) p.room
 
 raised_by : (k j digit above : ℕ) (values : List ℕ) → digit ≢ above
-    → raisedOne k j digit above values
+    → raised_one k j digit above values
     ≡ take (j * k) values ++ (words_of k (number_of (take k (drop (j * k) values)) + 1) ++ drop (j * k + k) values)
-unfolding raisedOne
+unfolding raised_one
 raised_by k j digit above values ne =
     ap (λ t. cond t values (take (j * k) values ++ (words_of k (number_of (take k (drop (j * k) values)) + 1) ++ drop (j * k + k) values)))
     (ne_eqb digit above ne)
 
 -- The whole with the part one more.
-pub part-raised : (k j digit above : ℕ) (values part : List ℕ) → OneRaisable k j values → digit ≢ above
+pub part_raised : (k j digit above : ℕ) (values part : List ℕ) → OneRaisable k j values → digit ≢ above
     → part
     ≡ words_of (length (take (j * k + k - j * k) (drop (j * k) values))) (number_of (take (j * k + k - j * k) (drop (j * k) values)) + 1)
-    → put_mid (j * k) (j * k + k - j * k) values part ≡ raisedOne k j digit above values
-part-raised k j digit above values part p ne e =
+    → put_mid (j * k) (j * k + k - j * k) values part ≡ raised_one k j digit above values
+part_raised k j digit above values part p ne e =
     ap₂ (λ m t. take (j * k) values ++ (m ++ t))
     (e
-    ∙ ap₂ (λ n m. words_of n (number_of (take m (drop (j * k) values)) + 1)) (part-long k j values p.inside) (span j k))
+    ∙ ap₂ (λ n m. words_of n (number_of (take m (drop (j * k) values)) + 1)) (part_long k j values p.inside) (span j k))
     (Post-is (j * k) (j * k + k) values (omega arith))
     ∙ sym (raised_by k j digit above values ne)
 
-pub not-raised : (k j digit above : ℕ) (values : List ℕ) → digit ≡ above → values ≡ raisedOne k j digit above values
-unfolding raisedOne
-not-raised k j digit above values e =
+pub not_raised : (k j digit above : ℕ) (values : List ℕ) → digit ≡ above → values ≡ raised_one k j digit above values
+unfolding raised_one
+not_raised k j digit above values e =
     sym
     (ap (λ t. cond t values (take (j * k) values ++ (words_of k (number_of (take k (drop (j * k) values)) + 1) ++ drop (j * k + k) values)))
     (eq-eqb digit above e))
@@ -151,114 +151,114 @@ first_word (suc k) [] h = refl
 first_word (suc k) (w ∷ ws) h = omega arith
 
 -- What is added to value i.
-abbrev pub addedTo : List ℕ → List ℕ → ℕ → ℕ
-addedTo ns above i = (get_or ns i 0 % 2 + get_or above i 0) % 2
+abbrev pub added_to : List ℕ → List ℕ → ℕ → ℕ
+added_to ns above i = (get_or ns i 0 % 2 + get_or above i 0) % 2
 
 pub record Raising (d k : ℕ) (above start values : List ℕ) (j : ℕ) : Type 0 where
   pub begun : Raisable d k above start
   pub inside : j ≤ d
-  pub words : values ≡ wordsOfAll k (raisedTo d (λ i. get_or (numbersOf d k start) i 0) (addedTo (numbersOf d k start) above) j)
+  pub words : values ≡ words_of_all k (raised_to d (λ i. get_or (numbers_of d k start) i 0) (added_to (numbers_of d k start) above) j)
 
 module _ {d k : ℕ} {above start values : List ℕ} {j : ℕ} (p : Raising d k above start values j) where
   long-now : length values ≡ d * k
   long-now =
-      ap length p.words ∙ length-wordsOfAll k (raisedTo d (λ i. get_or (numbersOf d k start) i 0) (addedTo (numbersOf d k start) above) j)
-      ∙ ap (λ n. n * k) (length-tabulate d (λ i. get_or (numbersOf d k start) i 0 + up_to j (addedTo (numbersOf d k start) above) i))
+      ap length p.words ∙ length-words_of_all k (raised_to d (λ i. get_or (numbers_of d k start) i 0) (added_to (numbers_of d k start) above) j)
+      ∙ ap (λ n. n * k) (length-tabulate d (λ i. get_or (numbers_of d k start) i 0 + up_to j (added_to (numbers_of d k start) above) i))
 
-  pub raising-long : length values ≡ length start
-  raising-long = long-now ∙ sym p.begun.long
+  pub raising_long : length values ≡ length start
+  raising_long = long-now ∙ sym p.begun.long
 
   -- Value j is as it came.
-  part-now : j < d → take k (drop (j * k) values) ≡ words_of k (get_or (numbersOf d k start) j 0)
+  part-now : j < d → take k (drop (j * k) values) ≡ words_of k (get_or (numbers_of d k start) j 0)
   part-now h =
-      let R = raisedTo d (λ i. get_or (numbersOf d k start) i 0) (addedTo (numbersOf d k start) above) j in
+      let R = raised_to d (λ i. get_or (numbers_of d k start) i 0) (added_to (numbers_of d k start) above) j in
       ap (λ l. take k (drop (j * k) l)) p.words
-      ∙ part_of k R j (omega (arith, length-tabulate d (λ i. get_or (numbersOf d k start) i 0 + up_to j (addedTo (numbersOf d k start) above) i)))
+      ∙ part_of k R j (omega (arith, length-tabulate d (λ i. get_or (numbers_of d k start) i 0 + up_to j (added_to (numbers_of d k start) above) i)))
       ∙ ap (words_of k)
-      (get_d_tabulate d (λ i. get_or (numbersOf d k start) i 0 + up_to j (addedTo (numbersOf d k start) above) i) j 0 h
-      ∙ ap (λ m. get_or (numbersOf d k start) j 0 + m) (to-do j (addedTo (numbersOf d k start) above) j (omega arith))
-      ∙ add-zero (get_or (numbersOf d k start) j 0))
+      (get_d_tabulate d (λ i. get_or (numbers_of d k start) i 0 + up_to j (added_to (numbers_of d k start) above) i) j 0 h
+      ∙ ap (λ m. get_or (numbers_of d k start) j 0 + m) (to_do j (added_to (numbers_of d k start) above) j (omega arith))
+      ∙ add-zero (get_or (numbers_of d k start) j 0))
 
-  number-now : j < d → number_of (take k (drop (j * k) values)) ≡ get_or (numbersOf d k start) j 0
+  number-now : j < d → number_of (take k (drop (j * k) values)) ≡ get_or (numbers_of d k start) j 0
   number-now h =
       ap number_of (part-now h)
-      ∙ numberOf-wordsOf k (get_or (numbersOf d k start) j 0) (omega (arith, p.begun.room j h))
+      ∙ number_of-words_of k (get_or (numbers_of d k start) j 0) (omega (arith, p.begun.room j h))
 
   -- Its last digit stands in its first word.
-  pub raising-digit : j < d → get_or values (j * k) 0 % 2 ≡ get_or (numbersOf d k start) j 0 % 2
-  raising-digit h =
+  pub raising_digit : j < d → get_or values (j * k) 0 % 2 ≡ get_or (numbers_of d k start) j 0 % 2
+  raising_digit h =
       ap (λ m. m % 2) (sym (get_or-drop (j * k) values 0 0 ∙ ap (λ i. get_or values i 0) (add-zero (j * k))))
-      ∙ first_word k (drop (j * k) values) p.begun.kLow ∙ ap (λ m. m % 2) (number-now h)
+      ∙ first_word k (drop (j * k) values) p.begun.k_low ∙ ap (λ m. m % 2) (number-now h)
 
-  pub raising-room : j < d → OneRaisable k j values
-  raising-room h = record {
-    jHigh = omega (arith, p.begun.dHigh);
-    kHigh = p.begun.kHigh;
+  pub raising_room : j < d → OneRaisable k j values
+  raising_room h = record {
+    j_high = omega (arith, p.begun.d_high);
+    k_high = p.begun.k_high;
     inside = omega (arith, long-now, mul-le-mul_right k h, suc-mul j k);
     room = subst (λ n. n + 1 < 2 ^ (64 * k)) (sym (number-now h)) (p.begun.room j h);
   }
 
   -- Its first word lies in the buffer.
-  pub raising-word : j < d → (j * k < length values) × (j * k ≤ 80)
-  raising-word h =
-      let r = raising-room h in
-      let few : j ≤ 8 = omega (arith, r.jHigh) in
-      (omega (arith, r.inside, p.begun.kLow), mul-le-mul few r.kHigh)
+  pub raising_word : j < d → (j * k < length values) × (j * k ≤ 80)
+  raising_word h =
+      let r = raising_room h in
+      let few : j ≤ 8 = omega (arith, r.j_high) in
+      (omega (arith, r.inside, p.begun.k_low), mul-le-mul few r.k_high)
 
   -- Value j is done.
-  pub raising-next : j < d → (after : List ℕ)
-      → after ≡ raisedOne k j (get_or (numbersOf d k start) j 0 % 2) (get_or above j 0) values → Raising d k above start after (j + 1)
-  raising-next h after e = record {
+  pub raising_next : j < d → (after : List ℕ)
+      → after ≡ raised_one k j (get_or (numbers_of d k start) j 0 % 2) (get_or above j 0) values → Raising d k above start after (j + 1)
+  raising_next h after e = record {
     begun = p.begun;
     inside = omega arith;
-    words = e ∙ next (ℕ_discrete (get_or (numbersOf d k start) j 0 % 2) (get_or above j 0));
+    words = e ∙ next (ℕ_discrete (get_or (numbers_of d k start) j 0 % 2) (get_or above j 0));
   }
     where
       n : ℕ → ℕ
-      n i = get_or (numbersOf d k start) i 0
+      n i = get_or (numbers_of d k start) i 0
 
-      next : Dec (get_or (numbersOf d k start) j 0 % 2 ≡ get_or above j 0)
-          → raisedOne k j (get_or (numbersOf d k start) j 0 % 2) (get_or above j 0) values ≡ wordsOfAll k (raisedTo d n (addedTo (numbersOf d k start) above) (j + 1))
+      next : Dec (get_or (numbers_of d k start) j 0 % 2 ≡ get_or above j 0)
+          → raised_one k j (get_or (numbers_of d k start) j 0 % 2) (get_or above j 0) values ≡ words_of_all k (raised_to d n (added_to (numbers_of d k start) above) (j + 1))
       next (yes q) =
-          let z : addedTo (numbersOf d k start) above j ≡ 0 = omega (arith, p.begun.few j h) in
-          sym (not-raised k j (get_or (numbersOf d k start) j 0 % 2) (get_or above j 0) values q)
-          ∙ p.words ∙ ap (wordsOfAll k) (raised-skip d n (addedTo (numbersOf d k start) above) j z)
+          let z : added_to (numbers_of d k start) above j ≡ 0 = omega (arith, p.begun.few j h) in
+          sym (not_raised k j (get_or (numbers_of d k start) j 0 % 2) (get_or above j 0) values q)
+          ∙ p.words ∙ ap (words_of_all k) (raised_skip d n (added_to (numbers_of d k start) above) j z)
       next (no q) =
-          let one : addedTo (numbersOf d k start) above j ≡ 1 = omega (arith, p.begun.few j h) in
-          let R = raisedTo d n (addedTo (numbersOf d k start) above) j in
-          raised_by k j (get_or (numbersOf d k start) j 0 % 2) (get_or above j 0) values q
+          let one : added_to (numbers_of d k start) above j ≡ 1 = omega (arith, p.begun.few j h) in
+          let R = raised_to d n (added_to (numbers_of d k start) above) j in
+          raised_by k j (get_or (numbers_of d k start) j 0 % 2) (get_or above j 0) values q
           ∙ ap₂ (λ l m. take (j * k) l ++ (words_of k (m + 1) ++ drop (j * k + k) l)) p.words (number-now h)
-          ∙ part-set k R j (n j + 1) (omega (arith, length-tabulate d (λ i. n i + up_to j (addedTo (numbersOf d k start) above) i)))
-          ∙ ap (wordsOfAll k) (ap (λ m. set R j (n j + m)) (sym one) ∙ raised-set d n (addedTo (numbersOf d k start) above) j h)
+          ∙ part_set k R j (n j + 1) (omega (arith, length-tabulate d (λ i. n i + up_to j (added_to (numbers_of d k start) above) i)))
+          ∙ ap (words_of_all k) (ap (λ m. set R j (n j + m)) (sym one) ∙ raised-set d n (added_to (numbers_of d k start) above) j h)
 
 -- Before the first value.
-pub raising-starts : (d k : ℕ) (above values : List ℕ) → Raisable d k above values
+pub raising_starts : (d k : ℕ) (above values : List ℕ) → Raisable d k above values
     → ((i : ℕ) → get_or values i 0 < 2 ^ 64) → Raising d k above values values 0
-raising-starts d k above values p words = record {
+raising_starts d k above values p words = record {
   begun = p;
   inside = omega arith;
   words =
       sym
-      (ap (wordsOfAll k)
-      (tabulate-same d (λ i. n i + up_to 0 (addedTo (numbersOf d k values) above) i) n
-      (λ i h. ap (λ m. n i + m) (to-do 0 (addedTo (numbersOf d k values) above) i (omega arith)) ∙ add-zero (n i))
+      (ap (words_of_all k)
+      (tabulate-same d (λ i. n i + up_to 0 (added_to (numbers_of d k values) above) i) n
+      (λ i h. ap (λ m. n i + m) (to_do 0 (added_to (numbers_of d k values) above) i (omega arith)) ∙ add-zero (n i))
       ∙ all)
-      ∙ wordsOfAll-numbersOf d k values p.long words);
+      ∙ words_of_all-numbers_of d k values p.long words);
 }
   where
     n : ℕ → ℕ
-    n i = get_or (numbersOf d k values) i 0
+    n i = get_or (numbers_of d k values) i 0
 
-    all : tabulate d (λ i. get_or (numbersOf d k values) i 0) ≡ numbersOf d k values
-    all = ap (λ m. tabulate m (λ i. get_or (numbersOf d k values) i 0)) (sym (length-numbersOf d k values)) ∙ tabulate-getD (numbersOf d k values) 0
+    all : tabulate d (λ i. get_or (numbers_of d k values) i 0) ≡ numbers_of d k values
+    all = ap (λ m. tabulate m (λ i. get_or (numbers_of d k values) i 0)) (sym (length-numbers_of d k values)) ∙ tabulate-get_or (numbers_of d k values) 0
 
 -- After the last.
-pub raising-ends : {d k : ℕ} {above start values : List ℕ} {j : ℕ} → Raising d k above start values j → d ≤ j
-    → values ≡ wordsOfAll k (raised d k above start)
+pub raising_ends : {d k : ℕ} {above start values : List ℕ} {j : ℕ} → Raising d k above start values j → d ≤ j
+    → values ≡ words_of_all k (raised d k above start)
 unfolding raised
-raising-ends {d} {k} {above} {start} {values} {j} p h =
+raising_ends {d} {k} {above} {start} {values} {j} p h =
     p.words
-    ∙ ap (wordsOfAll k)
-    (tabulate-same d (λ i. get_or (numbersOf d k start) i 0 + up_to j (addedTo (numbersOf d k start) above) i)
-    (λ i. get_or (numbersOf d k start) i 0 + addedTo (numbersOf d k start) above i)
-    (λ i b. ap (λ m. get_or (numbersOf d k start) i 0 + m) (done j (addedTo (numbersOf d k start) above) i (omega (arith, p.inside)))))
+    ∙ ap (words_of_all k)
+    (tabulate-same d (λ i. get_or (numbers_of d k start) i 0 + up_to j (added_to (numbers_of d k start) above) i)
+    (λ i. get_or (numbers_of d k start) i 0 + added_to (numbers_of d k start) above i)
+    (λ i b. ap (λ m. get_or (numbers_of d k start) i 0 + m) (done j (added_to (numbers_of d k start) above) i (omega (arith, p.inside)))))

@@ -5,21 +5,21 @@ use native.Mathlib.Decide.{ℕ_discrete}
 use lib.Arith.{digits_lt}
 use Rattle.ladder.specs.Inner.Decoding.{digit}
 use Rattle.ladder.specs.Numbers.{number_of}
-use Rattle.ladder.proofs.Numbers.{pow-words}
+use Rattle.ladder.proofs.Numbers.{pow_words}
 use Rattle.values.specs.Inner.{stored}
 
 -- A store at word i changes the number by what was put there, less what stood there, at the word's weight.
-numberOf-set : (ws : List ℕ) (i v : ℕ) → i < length ws
+number_of-set : (ws : List ℕ) (i v : ℕ) → i < length ws
     → number_of (set ws i v) + get_or ws i 0 * 2 ^ (64 * i) ≡ number_of ws + v * 2 ^ (64 * i)
 unfolding number_of
-numberOf-set [] i v h = absurd (not-suc-le-zero h)
-numberOf-set (w ∷ ws) zero v h = omega arith
-numberOf-set (w ∷ ws) (suc i) v h =
+number_of-set [] i v h = absurd (not-suc-le-zero h)
+number_of-set (w ∷ ws) zero v h = omega arith
+number_of-set (w ∷ ws) (suc i) v h =
     let B = 2 ^ 64 in
     let P = 2 ^ (64 * i) in
     let g = get_or ws i 0 in
-    let e = numberOf-set ws i v (le_of_suc-le-suc h) in
-    let p = pow-words i in
+    let e = number_of-set ws i v (le_of_suc-le-suc h) in
+    let p = pow_words i in
     let left : B * number_of (set ws i v) + B * (g * P) ≡ B * number_of ws + B * (v * P) =
     sym (mul-add B (number_of (set ws i v)) (g * P)) ∙ ap (λ n. B * n) e ∙ mul-add B (number_of ws) (v * P) in
     let gp : g * 2 ^ (64 * suc i) ≡ B * (g * P) = ap (λ n. g * n) p ∙ mul_left_comm g B P in
@@ -27,14 +27,14 @@ numberOf-set (w ∷ ws) (suc i) v h =
     omega (arith, left, gp, vp)
 
 -- A digit is 0 or 1.
-pub digit-small : (s : ℤ) → digit s ≤ 1
+pub digit_small : (s : ℤ) → digit s ≤ 1
 unfolding digit
-digit-small (pos n) = omega arith
-digit-small (negsuc n) = omega arith
+digit_small (pos n) = omega arith
+digit_small (negsuc n) = omega arith
 
 -- Words of 64 bits stay such under a store of one.
-pub words-set : (l : List ℕ) (i v : ℕ) → i < length l → v < 2 ^ 64 → ((k : ℕ) → get_or l k 0 < 2 ^ 64) → (k : ℕ) → get_or (set l i v) k 0 < 2 ^ 64
-words-set l i v h b words k = go (ℕ_discrete k i)
+pub words_set : (l : List ℕ) (i v : ℕ) → i < length l → v < 2 ^ 64 → ((k : ℕ) → get_or l k 0 < 2 ^ 64) → (k : ℕ) → get_or (set l i v) k 0 < 2 ^ 64
+words_set l i v h b words k = go (ℕ_discrete k i)
   where
     go : Dec (k ≡ i) → get_or (set l i v) k 0 < 2 ^ 64
     go (yes q) = subst (λ n. n < 2 ^ 64) (sym (ap (λ m. get_or (set l i v) m 0) q ∙ get_or-set_same l i v 0 h)) b
@@ -43,29 +43,29 @@ words-set l i v h b words k = go (ℕ_discrete k i)
 -- ---- one more
 
 -- A word below its largest takes the one: the number is one more.
-pub carry-ends : (ws : List ℕ) (i next n : ℕ) → i < length ws → ((k : ℕ) → get_or ws k 0 < 2 ^ 64)
+pub carry_ends : (ws : List ℕ) (i next n : ℕ) → i < length ws → ((k : ℕ) → get_or ws k 0 < 2 ^ 64)
     → next ≡ (get_or ws i 0 + 1) % 2 ^ 64 → (next ≡ 0 → ⊥) → number_of ws + 2 ^ (64 * i) ≡ n + 1 → number_of (set ws i next) ≡ n + 1
-carry-ends ws i next n h words e z inv =
+carry_ends ws i next n h words e z inv =
     let w = get_or ws i 0 in
     let b = words i in
     let up : next ≡ w + 1 = omega arith in
-    let put = numberOf-set ws i next h in
+    let put = number_of-set ws i next h in
     let parts : next * 2 ^ (64 * i) ≡ w * 2 ^ (64 * i) + 2 ^ (64 * i) =
     ap (λ k. k * 2 ^ (64 * i)) up ∙ add-mul w 1 (2 ^ (64 * i)) ∙ ap (λ k. w * 2 ^ (64 * i) + k) (one-mul (2 ^ (64 * i))) in
     omega (arith, put, parts, inv)
 
 -- The largest word becomes 0, and the one is owed to the next word.
-pub carry-on : (ws : List ℕ) (i next n : ℕ) → i < length ws → ((k : ℕ) → get_or ws k 0 < 2 ^ 64)
+pub carry_on : (ws : List ℕ) (i next n : ℕ) → i < length ws → ((k : ℕ) → get_or ws k 0 < 2 ^ 64)
     → next ≡ (get_or ws i 0 + 1) % 2 ^ 64 → next ≡ 0 → number_of ws + 2 ^ (64 * i) ≡ n + 1
     → number_of (set ws i next) + 2 ^ (64 * (i + 1)) ≡ n + 1
-carry-on ws i next n h words e z inv =
+carry_on ws i next n h words e z inv =
     let w = get_or ws i 0 in
     let b = words i in
     let top : w + 1 ≡ 2 ^ 64 = omega arith in
-    let put = numberOf-set ws i next h in
+    let put = number_of-set ws i next h in
     let gone : next * 2 ^ (64 * i) ≡ 0 = ap (λ k. k * 2 ^ (64 * i)) z ∙ zero-mul (2 ^ (64 * i)) in
     let owed : 2 ^ (64 * (i + 1)) ≡ w * 2 ^ (64 * i) + 2 ^ (64 * i) =
-    ap (λ k. 2 ^ (64 * k)) (add-one i) ∙ pow-words i ∙ ap (λ k. k * 2 ^ (64 * i)) (sym top)
+    ap (λ k. 2 ^ (64 * k)) (add-one i) ∙ pow_words i ∙ ap (λ k. k * 2 ^ (64 * i)) (sym top)
     ∙ add-mul w 1 (2 ^ (64 * i)) ∙ ap (λ k. w * 2 ^ (64 * i) + k) (one-mul (2 ^ (64 * i))) in
     omega (arith, put, gone, owed, inv)
 
@@ -80,10 +80,10 @@ pub stored_next : (j k w : ℕ) (held values : List ℕ) → set (stored j k w h
 unfolding stored
 stored_next j k w held values = ap (λ n. stored n k w held values) (sym (add-one j))
 
-pub stored-none : (k w : ℕ) (held values : List ℕ) → values ≡ stored 0 k w held values
+pub stored_none : (k w : ℕ) (held values : List ℕ) → values ≡ stored 0 k w held values
 unfolding stored
-stored-none k w held values = refl
+stored_none k w held values = refl
 
 -- A word of a value lies in the buffer.
-pub word-inside : (j k w d : ℕ) → j < d → w < k → j * k + w < d * k
-word-inside j k w d h l = digits_lt h l
+pub word_inside : (j k w d : ℕ) → j < d → w < k → j * k + w < d * k
+word_inside j k w d h l = digits_lt h l

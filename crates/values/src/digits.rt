@@ -1,6 +1,6 @@
 // Numbers that grow by one binary digit a step, top digit first: one for each column, its last 64 digits held in a word.
 ghost use Rattle.std.specs.Prelude.{◌≡◌, pred, ◌-◌, ◌≤◌, ◌++◌, map, length, take, replicate};
-ghost use Rattle.ladder.specs.Matrix.{stepOrder};
+ghost use Rattle.ladder.specs.Matrix.{step_order};
 ghost use Rattle.ladder.specs.Walk.{bits_of};
 ghost use Rattle.bits.specs.Ready.{Columns};
 ghost use Rattle.values.specs.Inner.{pushed, Pushed};
@@ -19,8 +19,8 @@ fn push(word: u64, bit: u64) -> u64
 // place k is the old order's place x after falling where bit k is 1, and its place y before growing, which is x + k, where it is 0.
 pub fn step_digits(old: [u8; 8], d: usize, r: u64, held: &mut [u64]) -> [u8; 8]
     requires { (d ≤ 8) × (Columns d old × (length held.old ≡ d)) }
-    ensures { (result ≡ stepOrder (take d old) (bits_of d r) ++ replicate (8 - d) 0)
-        × Pushed d (stepOrder (map pred (take d old)) (bits_of d r)) (bits_of d r) held.old held.new }
+    ensures { (result ≡ step_order (take d old) (bits_of d r) ++ replicate (8 - d) 0)
+        × Pushed d (step_order (map pred (take d old)) (bits_of d r)) (bits_of d r) held.old held.new }
 {
     let mut new: [u8; 8] = [0; 8];
     let mut x = ones_in(d, r);

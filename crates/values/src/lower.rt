@@ -1,6 +1,6 @@
 // The walk through a plan: the lower of each column's two numbers, digit by digit.
 ghost use Rattle.std.specs.Prelude.{◌≡◌, replicate};
-ghost use Rattle.walk.specs.WalkState.{walkState};
+ghost use Rattle.walk.specs.WalkState.{walk_state};
 ghost use Rattle.values.specs.Inner.{AtStart, Lowered};
 
 use crate::digits::step_digits;
@@ -11,8 +11,8 @@ use walk::Walk;
 // Leaves the lower numbers in words, and gives back the order after the last step. The held words come as 0. The top word has no
 // digit of its own where 64 divides l, so it is cleared first.
 fn lower_with(start: Walk, bits: &[u8], l: usize, held: &mut [u64], values: &mut [u64]) -> [u8; 8]
-    requires { (held.old ≡ replicate (walkState start).d 0) × AtStart (walkState start) l bits.now values.old }
-    ensures { Lowered (walkState start) l bits.now result values.new }
+    requires { (held.old ≡ replicate (walk_state start).d 0) × AtStart (walk_state start) l bits.now values.old }
+    ensures { Lowered (walk_state start) l bits.now result values.new }
 {
     let k = value_words(l);
     store_words(held, start.d as usize, k, k - 1, values);
@@ -31,8 +31,8 @@ fn lower_with(start: Walk, bits: &[u8], l: usize, held: &mut [u64], values: &mut
 
 // The same, with nothing held.
 pub fn lower_values(start: Walk, bits: &[u8], l: usize, values: &mut [u64]) -> [u8; 8]
-    requires { AtStart (walkState start) l bits.now values.old }
-    ensures { Lowered (walkState start) l bits.now result values.new }
+    requires { AtStart (walk_state start) l bits.now values.old }
+    ensures { Lowered (walk_state start) l bits.now result values.new }
 {
     let d = start.d as usize;
     let mut held = [0u64; 8];

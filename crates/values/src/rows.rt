@@ -2,8 +2,8 @@
 // above the row.
 ghost use Rattle.std.specs.Prelude.{◌≡◌, ℕ, suc, ◌+◌, ◌*◌, ◌<◌, ◌≤◌, take, slice_index};
 ghost use Rattle.ladder.specs.Lists.{count};
-ghost use Rattle.ladder.specs.Numbers.{wordsOfAll};
-ghost use Rattle.values.specs.Inner.{Raisable, raised, OneRaisable, raisedOne};
+ghost use Rattle.ladder.specs.Numbers.{words_of_all};
+ghost use Rattle.values.specs.Inner.{Raisable, raised, OneRaisable, raised_one};
 
 use crate::stored::increment;
 
@@ -25,7 +25,7 @@ pub fn columns_above(order: [u8; 8], row: usize) -> [u64; 8]
 // Adds one to value j where its lowest bit, `digit`, is not `above`, which is 1 for a column that stands above the row, else 0.
 fn raise_one(values: &mut [u64], k: usize, j: usize, digit: u64, above: u64)
     requires { OneRaisable k j values.old }
-    ensures { values.new ≡ raisedOne k j digit above values.old }
+    ensures { values.new ≡ raised_one k j digit above values.old }
 {
     if digit == above {
         return;
@@ -38,7 +38,7 @@ fn raise_one(values: &mut [u64], k: usize, j: usize, digit: u64, above: u64)
 // Adds one to each value that is odd and whose column does not stand above the row, or even and it does.
 pub fn raise(values: &mut [u64], d: usize, k: usize, above: [u64; 8])
     requires { Raisable d k above values.old }
-    ensures { values.new ≡ wordsOfAll k (raised d k above values.old) }
+    ensures { values.new ≡ words_of_all k (raised d k above values.old) }
 {
     let mut j: usize = 0;
     while j < d {

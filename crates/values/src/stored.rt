@@ -1,11 +1,11 @@
 // Decoded values as words: d values of k words each, lowest word first.
 ghost use Rattle.std.specs.Prelude.{◌≡◌, ◌+◌, ◌*◌, ◌/◌, ◌^◌, ◌<◌, ◌≤◌, length};
-ghost use Rattle.ladder.specs.Numbers.{number_of, words_of, valueWords};
-ghost use Rattle.values.specs.Inner.{stored, storedThen};
+ghost use Rattle.ladder.specs.Numbers.{number_of, words_of, value_words};
+ghost use Rattle.values.specs.Inner.{stored, stored_then};
 
 // The words of one value: floor(l / 64) + 1.
 pub fn value_words(l: usize) -> usize
-    ensures { result ≡ valueWords l }
+    ensures { result ≡ value_words l }
 {
     l / 64 + 1
 }
@@ -25,7 +25,7 @@ pub fn store_words(held: &[u64], d: usize, k: usize, w: usize, values: &mut [u64
 // Where no digit of the current word is to come, the held words are full: they are stored.
 pub fn store_full(held: &[u64], d: usize, k: usize, left: usize, values: &mut [u64])
     requires { (d ≤ 8) × ((k ≤ 10) × ((left / 64 < k) × ((length held.now ≡ d) × (length values.old ≡ d * k)))) }
-    ensures { values.new ≡ storedThen d k left held.now values.old }
+    ensures { values.new ≡ stored_then d k left held.now values.old }
 {
     if left % 64 == 0 {
         store_words(held, d, k, left / 64, values);

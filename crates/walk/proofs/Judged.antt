@@ -13,8 +13,8 @@ use lib.ListN.{length, get_or, take, drop, get_or-eq_default}
 use lib.Pow.{pow_pos}
 use Rattle.ladder.specs.Lists.{all}
 use Rattle.ladder.specs.Walk.{Walk}
-use Rattle.ladder.specs.Refusals.{unless, isArrangement, allUnits, is_zero, walkOrder}
-use Rattle.ladder.proofs.Tests.{Says, reworded, eqb-says, and-says, past-says, isZero-says}
+use Rattle.ladder.specs.Refusals.{unless, is_arrangement, all_units, is_zero, walk_order}
+use Rattle.ladder.proofs.Tests.{Says, reworded, eqb_says, and_says, past_says, is_zero_says}
 
 -- ---- what lies past d
 
@@ -23,17 +23,17 @@ abbrev pub Free : List ℕ → List ℤ → ℕ → Type 0
 Free order signs i = (get_or order i 0 ≡ 0) × (get_or signs i (pos 0) ≡ pos 0)
 
 -- Every place past d.
-pub zeros-says : (d : ℕ) (order : List ℕ) (signs : List ℤ)
+pub zeros_says : (d : ℕ) (order : List ℕ) (signs : List ℤ)
     → Says (all (eqb 0) (drop d order) && all is_zero (drop d signs)) ((i : ℕ) → d ≤ i → Free order signs i)
-zeros-says d order signs =
+zeros_says d order signs =
     reworded
-    (and-says (past-says (eqb 0) 0 d order (λ n. reworded (eqb-says 0 n) (sym, sym))) (past-says is_zero (pos 0) d signs isZero-says))
+    (and_says (past_says (eqb 0) 0 d order (λ n. reworded (eqb_says 0 n) (sym, sym))) (past_says is_zero (pos 0) d signs is_zero_says))
     (λ t i h. (t.0 i h, t.1 i h), λ f. (λ i h. (f i h).0, λ i h. (f i h).1))
 
 -- All eight places seen are all.
-pub eight-seen : (d k : ℕ) (order : List ℕ) (signs : List ℤ) → length order ≡ 8 → length signs ≡ 8 → 8 ≤ k
+pub eight_seen : (d k : ℕ) (order : List ℕ) (signs : List ℤ) → length order ≡ 8 → length signs ≡ 8 → 8 ≤ k
     → ((i : ℕ) → i < k → d ≤ i → Free order signs i) → (i : ℕ) → d ≤ i → Free order signs i
-eight-seen d k order signs e f h seen i l = go (dec_lt i k)
+eight_seen d k order signs e f h seen i l = go (dec_lt i k)
   where
     go : Dec (i < k) → Free order signs i
     go (yes b) = seen i b l
@@ -43,26 +43,26 @@ eight-seen d k order signs e f h seen i l = go (dec_lt i k)
 
 module _ (w : Walk) where
   -- The order is no arrangement ..
-  pub order-fails : isArrangement w.d (take w.d w.order) ≡ false → 5 ≡ walkOrder w
-  unfolding walkOrder unless
-  order-fails e = rw e
+  pub order_fails : is_arrangement w.d (take w.d w.order) ≡ false → 5 ≡ walk_order w
+  unfolding walk_order unless
+  order_fails e = rw e
 
   -- .. or it is, and a sign is neither 1 nor -1 ..
-  pub units-fail : isArrangement w.d (take w.d w.order) ≡ true → allUnits w.d w.signs ≡ false → 5 ≡ walkOrder w
-  unfolding walkOrder unless
-  units-fail e f = rw (e, f)
+  pub units_fail : is_arrangement w.d (take w.d w.order) ≡ true → all_units w.d w.signs ≡ false → 5 ≡ walk_order w
+  unfolding walk_order unless
+  units_fail e f = rw (e, f)
 
   -- .. or the signs are right too, and what lies past d decides.
-  pub rest-decides : isArrangement w.d (take w.d w.order) ≡ true → allUnits w.d w.signs ≡ true
-      → unless (all (eqb 0) (drop w.d w.order) && all is_zero (drop w.d w.signs)) 5 ≡ walkOrder w
-  unfolding walkOrder
-  rest-decides e f = rw (e, f)
+  pub rest_decides : is_arrangement w.d (take w.d w.order) ≡ true → all_units w.d w.signs ≡ true
+      → unless (all (eqb 0) (drop w.d w.order) && all is_zero (drop w.d w.signs)) 5 ≡ walk_order w
+  unfolding walk_order
+  rest_decides e f = rw (e, f)
 
 -- ---- number 3
 
 -- A number without bits from bit d on is below 2^d, and no other is.
-pub no-high-bits : (d n : ℕ) → n / 2 ^ d ≡ 0 → n < 2 ^ d
-no-high-bits d n e = omega (arith, (div-lt_iff_lt-mul {k = 2 ^ d} {x = n} {y = 1} (pow_pos d)).0 (omega arith))
+pub no_high_bits : (d n : ℕ) → n / 2 ^ d ≡ 0 → n < 2 ^ d
+no_high_bits d n e = omega (arith, (div-lt_iff_lt-mul {k = 2 ^ d} {x = n} {y = 1} (pow_pos d)).0 (omega arith))
 
 pub high_bits : (d n : ℕ) → (n / 2 ^ d ≡ 0 → ⊥) → 2 ^ d ≤ n
 high_bits d n ne = go (dec_lt n (2 ^ d))

@@ -3,5 +3,5 @@
 use Rattle.ladder.specs.Walk as rules
 use Rattle.walk.specs.declared.state.Walk.{Walk}
 
-unfoldable pub walkState : Walk → rules.Walk
-walkState w = record { d = w.d; order = w.order; signs = w.signs }
+unfoldable pub walk_state : Walk → rules.Walk
+walk_state w = record { d = w.d; order = w.order; signs = w.signs }

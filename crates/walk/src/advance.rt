@@ -1,7 +1,7 @@
 // One step of the walk.
 ghost use Rattle.std.specs.Prelude.{◌≡◌};
-ghost use Rattle.ladder.specs.Walk.{stepWalk};
-ghost use Rattle.walk.specs.WalkState.{walkState};
+ghost use Rattle.ladder.specs.Walk.{step_walk};
+ghost use Rattle.walk.specs.WalkState.{walk_state};
 ghost use Rattle.bits.specs.Ready.{Ready};
 
 use crate::state::Walk;
@@ -9,8 +9,8 @@ use bits::{next_order, next_signs};
 
 // The walk after a step with the bits in r, from a walk state that was judged before.
 pub fn advance(w: Walk, r: u64) -> Walk
-    requires { Ready (walkState w) }
-    ensures { walkState result ≡ stepWalk (walkState w) r }
+    requires { Ready (walk_state w) }
+    ensures { walk_state result ≡ step_walk (walk_state w) r }
 {
     let d = w.d as usize;
     let old = w.order;

@@ -1,8 +1,8 @@
 // The judging of a walk state, which may hold anything, and of a step's number.
 ghost use Rattle.std.specs.Prelude.{◌≤◌, ◌≡◌, ◌&&◌, eqb, drop};
 ghost use Rattle.ladder.specs.Lists.{all};
-ghost use Rattle.ladder.specs.Refusals.{is_unit, allUnits, is_zero, walkOrder, stepShape, stepRefusal};
-ghost use Rattle.walk.specs.WalkState.{walkState};
+ghost use Rattle.ladder.specs.Refusals.{is_unit, all_units, is_zero, walk_order, step_shape, step_refusal};
+ghost use Rattle.walk.specs.WalkState.{walk_state};
 
 use crate::state::Walk;
 use refuse::{OK, ORDER, SHAPE};
@@ -23,7 +23,7 @@ fn is_unit(s: i8) -> bool
 // The signs of columns 1..d are 1 or -1.
 fn units(d: usize, signs: [i8; 8]) -> bool
     requires { d ≤ 8 }
-    ensures { result ≡ allUnits d signs }
+    ensures { result ≡ all_units d signs }
 {
     let mut j: usize = 0;
     while j < d {
@@ -55,7 +55,7 @@ fn zeros_past(d: usize, order: [u8; 8], signs: [i8; 8]) -> bool
 // Number 5 of a walk state.
 fn walk_order(w: Walk) -> u64
     requires { w.d ≤ 8 }
-    ensures { result ≡ walkOrder (walkState w) }
+    ensures { result ≡ walk_order (walk_state w) }
 {
     let d = w.d as usize;
     let order = w.order;
@@ -75,14 +75,14 @@ fn walk_order(w: Walk) -> u64
 // Number 3 of a step: its bits as a number, which must be below 2^d.
 fn step_shape(d: u64, bits: u64) -> u64
     requires { d ≤ 8 }
-    ensures { result ≡ stepShape d bits }
+    ensures { result ≡ step_shape d bits }
 {
     if bits >> d == 0 { OK } else { SHAPE }
 }
 
 // The refusal of a step: 1, 5, 3. Only a d in range is used to look into the arrays.
 pub fn step_refusal(w: Walk, bits: u64) -> u64
-    ensures { result ≡ stepRefusal (walkState w) bits }
+    ensures { result ≡ step_refusal (walk_state w) bits }
 {
     let d = w.d;
     let dimension = refuse::dim(d);

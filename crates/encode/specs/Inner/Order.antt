@@ -4,9 +4,9 @@ use Rattle.std.specs.Prelude.{ℕ, ◌/◌, ◌%◌, ◌^◌, ◌≤◌, ◌<◌
 
 -- The first d places hold columns.
 pub record ColumnsIn (d : ℕ) (order : List ℕ) : Type 0 where
-  pub dHigh : d ≤ 8
+  pub d_high : d ≤ 8
   pub inside : (k : ℕ) → k < d → get_or order k 0 < d
 
 -- Each place's bit, where column j's stands in a number at weight 2^j.
-unfoldable pub dealtBy : ℕ → List ℕ → List ℕ
-dealtBy n S = map (λ j. n / 2 ^ j % 2) S
+unfoldable pub dealt_by : ℕ → List ℕ → List ℕ
+dealt_by n S = map (λ j. n / 2 ^ j % 2) S

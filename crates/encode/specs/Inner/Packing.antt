@@ -6,8 +6,8 @@ use Rattle.ladder.specs.Walk.{bits_of}
 use Rattle.encode.specs.declared.packing.Packing.{Packing}
 
 -- The bits that are held, then those of the bytes that are written.
-unfoldable pub bitsIn : Packing → List ℕ → List ℕ
-bitsIn p bytes = bits_of p.held p.fill ++ flatten (map (bits_of 8) (drop p.at bytes))
+unfoldable pub bits_in : Packing → List ℕ → List ℕ
+bits_in p bytes = bits_of p.held p.fill ++ flatten (map (bits_of 8) (drop p.at bytes))
 
 -- Less than a byte is held, and no more bytes are to be written than there are.
 pub record Open (p : Packing) (bytes : List ℕ) : Type 0 where
@@ -18,7 +18,7 @@ pub record Open (p : Packing) (bytes : List ℕ) : Type 0 where
 -- There is room for d bits more, the number r.
 pub record Room (p : Packing) (d r : ℕ) (bytes : List ℕ) : Type 0 where
   pub state : Open p bytes
-  pub dHigh : d ≤ 8
+  pub d_high : d ≤ 8
   pub fits : r < 2 ^ d
   pub room : p.held + d ≤ 8 * p.at
 
@@ -26,4 +26,4 @@ pub record Room (p : Packing) (d r : ℕ) (bytes : List ℕ) : Type 0 where
 pub record Put (p : Packing) (d r : ℕ) (bytes : List ℕ) (q : Packing) (after : List ℕ) : Type 0 where
   pub state : Open q after
   pub moved : 8 * q.at + p.held + d ≡ 8 * p.at + q.held
-  pub bits : bitsIn q after ≡ bits_of d r ++ bitsIn p bytes
+  pub bits : bits_in q after ≡ bits_of d r ++ bits_in p bytes

@@ -1,9 +1,9 @@
--- `list::main` is safe and ends: what is written lies within the buffer (`written-inside`).
+-- `list::main` is safe and ends: what is written lies within the buffer (`written_inside`).
 -- Assumes the toolchain's contracts of the C library's read and write.
 use mathlib.Core.Path.{sym}
 use lib.Seq.{length-take-le}
-use Rattle.ladder.specs.Numbers.{longestText}
-use Rattle.list.proofs.Listed.{written-inside}
+use Rattle.ladder.specs.Numbers.{longest_text}
+use Rattle.list.proofs.Listed.{written_inside}
 use borrow.Author.Rules.{rules}
 use Rattle.list.proofs.main.Statement.{statement}
 use Rattle.list.proofs.main.Tie as tie
@@ -24,14 +24,14 @@ slice-aggregate-put-listing-2 : tie.Need-slice-aggregate-put-listing-2
 slice-aggregate-put-listing-2 c = search rules
 
 put-listing-requires : tie.Need-put-listing-requires
-unfolding longestText
+unfolding longest_text
 put-listing-requires c κs = search rules
 
 array-share-prefix-text : tie.Need-array-share-prefix-text
-array-share-prefix-text c = written-inside c.before.put-listing.ensures
+array-share-prefix-text c = written_inside c.before.put-listing.ensures
 
 slice-aggregate-write-all : tie.Need-slice-aggregate-write-all
-slice-aggregate-write-all c = sym (length-take-le _ _ (written-inside c.before.before.put-listing.ensures))
+slice-aggregate-write-all c = sym (length-take-le _ _ (written_inside c.before.before.put-listing.ensures))
 
 write-all-requires : tie.Need-write-all-requires
 write-all-requires c κs = search rules

@@ -4,7 +4,7 @@ use Prim.Native.Nat.{◌/◌, ◌%◌, ◌^◌}
 use mathlib.Core.Path.{ap}
 use native.Mathlib.Omega.{arith}
 use borrow.Author.Rules.{rules}
-use Rattle.ladder.proofs.Walk.{getD-bitsOf}
+use Rattle.ladder.proofs.Walk.{get_or-bits_of}
 use Rattle.bits.proofs.number.bit.Statement.{statement}
 use Rattle.bits.proofs.number.bit.Tie as tie
 
@@ -18,7 +18,7 @@ shr-result : tie.Need-overflow-shr-result
 shr-result c = search rules
 
 returns : tie.Need-returns
-returns c = rw (getD-bitsOf c.args.d c.args.r c.args.k (search rules)) (ap (λ i. c.args.r / 2 ^ i % 2) (omega arith))
+returns c = rw (get_or-bits_of c.args.d c.args.r c.args.k (search rules)) (ap (λ i. c.args.r / 2 ^ i % 2) (omega arith))
 
 pub bit-spec : {M : Type 1} → statement M
 bit-spec = tie.close (tie.spec sub-result sub-result-2 shr-result returns)

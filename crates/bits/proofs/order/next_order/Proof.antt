@@ -4,7 +4,7 @@
 use Prim.Native.Nat.{◌+◌, ◌-◌, ◌*◌, ◌≤◌, ◌<◌}
 use native.Mathlib.Omega.{arith}
 use borrow.Author.Rules.{rules}
-use Rattle.bits.proofs.Filling.{Filling, filling-start, filling-next, filling-end, filling-reads}
+use Rattle.bits.proofs.Filling.{Filling, filling_start, filling_next, filling_end, filling_reads}
 use Rattle.bits.proofs.order.next_order.Statement.{statement}
 use Rattle.bits.proofs.order.next_order.Tie as tie
 
@@ -20,7 +20,7 @@ read : (c : tie.After-bit invariant-loop decreases-loop)
     × (c.bit.result < 2)
     × (c.before.before.loop.x - c.bit.result + c.before.before.loop.k * (1 - c.bit.result)
     < c.before.before.before.before.args.d)
-read c = filling-reads c.before.before.loop.invariant c.before.loop-test.true c.bit.result c.bit.ensures
+read c = filling_reads c.before.before.loop.invariant c.before.loop-test.true c.bit.result c.bit.ensures
 
 ones-in-requires : tie.Need-ones-in-requires invariant-loop decreases-loop
 ones-in-requires c κs = search rules
@@ -28,7 +28,7 @@ ones-in-requires c κs = search rules
 loop-holds : tie.Need-loop-init invariant-loop decreases-loop
 loop-holds c =
     let a = c.before.args in
-    filling-start a.d a.t2 a.r (search rules) c.ones_in_lem.result c.ones_in_lem.ensures
+    filling_start a.d a.t2 a.r (search rules) c.ones_in_lem.result c.ones_in_lem.ensures
 
 bit-requires : tie.Need-bit-requires invariant-loop decreases-loop
 bit-requires c κs = search rules
@@ -60,13 +60,13 @@ loop-less c = search rules
 loop-again : tie.Need-loop-preserved invariant-loop decreases-loop
 loop-again c =
     let a = c.before.before.before.before.args in
-    filling-next a.d a.t2 a.r (search rules) c.before.before.loop.invariant c.before.loop-test.true c.bit.result
+    filling_next a.d a.t2 a.r (search rules) c.before.before.loop.invariant c.before.loop-test.true c.bit.result
     c.bit.ensures
 
 returns : tie.Need-returns invariant-loop decreases-loop
 returns c =
     let a = c.before.before.before.args in
-    filling-end a.d a.t2 a.r (search rules) c.before.loop.invariant (search rules)
+    filling_end a.d a.t2 a.r (search rules) c.before.loop.invariant (search rules)
 
 pub next-order-spec : {M : Type 1} → statement M
 next-order-spec =

@@ -1,11 +1,11 @@
--- `step_bits` meets its contract: the d bits stand in two neighbouring bytes (`read-two`).
+-- `step_bits` meets its contract: the d bits stand in two neighbouring bytes (`read_two`).
 -- Assumes nothing.
 use Prim.Native.Nat.{◌*◌, ◌/◌, ◌%◌}
 use native.Mathlib.Omega.{arith}
 use lib.Pow.{pow_pos}
 use borrow.Author.Rules.{rules}
-use Rattle.ladder.proofs.Bits.{bits-bound}
-use Rattle.bits.proofs.Reading.{read-two}
+use Rattle.ladder.proofs.Bits.{bits_bound}
+use Rattle.bits.proofs.Reading.{read_two}
 use Rattle.bits.proofs.StepBits.{power}
 use Rattle.bits.proofs.read.step_bits.Statement.{statement}
 use Rattle.bits.proofs.read.step_bits.Tie as tie
@@ -13,7 +13,7 @@ use Rattle.bits.proofs.read.step_bits.Tie as tie
 mul-first : tie.Need-overflow-mul-first
 mul-first c =
     let a = c.before.args in
-    omega (arith, bits-bound a.d a.s (search rules) (omega arith))
+    omega (arith, bits_bound a.d a.s (search rules) (omega arith))
 
 byte-requires : tie.Need-byte-requires
 byte-requires c κs = search rules
@@ -24,7 +24,7 @@ cast-high c = search rules
 add-byte : tie.Need-overflow-add-byte
 add-byte c =
     let a = c.before.before.args in
-    omega (arith, bits-bound a.d a.s (search rules) (omega arith))
+    omega (arith, bits_bound a.d a.s (search rules) (omega arith))
 
 byte-requires-2 : tie.Need-byte-requires-2
 byte-requires-2 c κs = search rules
@@ -59,7 +59,7 @@ returns : tie.Need-returns
 returns c =
     let a = c.before.before.before.args in
     rw (power a.d (search rules))
-    (read-two a.bytes.now c.before.byte.result c.byte2.result (a.s * a.d / 8)
+    (read_two a.bytes.now c.before.byte.result c.byte2.result (a.s * a.d / 8)
     c.before.byte.ensures c.byte2.ensures (omega arith)
     a.d a.s (a.s * a.d % 8) (search rules) (omega arith) (omega arith))
 

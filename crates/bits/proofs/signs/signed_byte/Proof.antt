@@ -1,6 +1,6 @@
 -- `signed_byte` meets its contract, by the laws of a signed number and its byte.
 -- Assumes nothing.
-use Rattle.bits.proofs.SignedByte.{wide_fits, up_fits, up-cast, up-byte, low-cast, low_byte}
+use Rattle.bits.proofs.SignedByte.{wide_fits, up_fits, up_cast, up_byte, low_cast, low_byte}
 use Rattle.bits.proofs.signs.signed_byte.Statement.{statement}
 use Rattle.bits.proofs.signs.signed_byte.Tie as tie
 
@@ -11,13 +11,13 @@ add-result : tie.Need-overflow-add-result
 add-result c = up_fits _ c.before.ranges.s c.if1.true
 
 cast-result-2 : tie.Need-overflow-cast-result-2
-cast-result-2 c = up-cast _ c.before.ranges.s c.if1.true
+cast-result-2 c = up_cast _ c.before.ranges.s c.if1.true
 
 cast-result-3 : tie.Need-overflow-cast-result-3
-cast-result-3 c = low-cast _ c.before.ranges.s c.if1.false
+cast-result-3 c = low_cast _ c.before.ranges.s c.if1.false
 
 returns : tie.Need-returns
-returns c = up-byte _ c.before.ranges.s c.if1.true
+returns c = up_byte _ c.before.ranges.s c.if1.true
 
 returns-2 : tie.Need-returns-2
 returns-2 c = low_byte _ c.before.ranges.s c.if1.false

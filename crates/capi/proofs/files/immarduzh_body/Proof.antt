@@ -4,10 +4,10 @@
 use mathlib.Core.Path.{sym, ap, ◌∙◌}
 use native.Mathlib.Omega.{arith}
 use lib.ListN.{length}
-use Rattle.ladder.proofs.Tests.{refusing-no, refusing-yes}
+use Rattle.ladder.proofs.Tests.{refusing_no, refusing_yes}
 use Rattle.planfile.proofs.Promised.{body_refused}
 use borrow.Author.Rules.{rules}
-use Rattle.capi.proofs.Bodies.{trailer-within, body-within, body-begins, body-size}
+use Rattle.capi.proofs.Bodies.{trailer-within, body_within, body_begins, body_size}
 use Rattle.capi.proofs.files.immarduzh_body.Statement.{statement}
 use Rattle.capi.proofs.files.immarduzh_body.Tie as tie
 
@@ -24,8 +24,8 @@ returns c =
     let some = c.if1.true in
     record {
       refusal_is = u.refusal_is;
-      offset-is = sym (refusing-yes _ _ _ some);
-      size_is = ap length (body_refused b.body.ensures u some).0 ∙ sym (refusing-yes _ _ _ some);
+      offset_is = sym (refusing_yes _ _ _ some);
+      size_is = ap length (body_refused b.body.ensures u some).0 ∙ sym (refusing_yes _ _ _ some);
     }
 
 sub-offset : tie.Need-overflow-sub-offset
@@ -36,7 +36,7 @@ sub-offset c =
 sub-offset-2 : tie.Need-overflow-sub-offset-2
 sub-offset-2 c =
     let b = c.before.before in
-    omega (arith, body-within b.before.unpack.ensures b.body.ensures c.if1.false)
+    omega (arith, body_within b.before.unpack.ensures b.body.ensures c.if1.false)
 
 returns-2 : tie.Need-returns-2
 returns-2 c =
@@ -45,8 +45,8 @@ returns-2 c =
     let none = c.if1.false in
     record {
       refusal_is = u.refusal_is;
-      offset-is = body-begins u b.body.ensures none ∙ sym (refusing-no _ _ _ none);
-      size_is = body-size u b.body.ensures none ∙ sym (refusing-no _ _ _ none);
+      offset_is = body_begins u b.body.ensures none ∙ sym (refusing_no _ _ _ none);
+      size_is = body_size u b.body.ensures none ∙ sym (refusing_no _ _ _ none);
     }
 
 pub immarduzh-body-spec : {M : Type 1} → statement M

@@ -20,7 +20,7 @@ cast-yes c = search rules
 returns : tie.Need-returns
 returns c =
     let k = c.before.check in
-    record { said = k.result.yes; said-is = k.ensures; yes-is = as_number k.result.yes }
+    record { said = k.result.yes; said_is = k.ensures; yes_is = as_number k.result.yes }
 
 pub immarduzh-check-spec : {M : Type 1} → statement M
 immarduzh-check-spec = tie.close (tie.spec check-requires cast-yes returns)

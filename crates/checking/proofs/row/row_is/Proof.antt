@@ -4,16 +4,16 @@ use Prim.Native.Nat.{◌*◌, ◌≤◌}
 use mathlib.Core.Path.{sym, ap, ◌∙◌}
 use native.Mathlib.Omega.{arith}
 use lib.Seq.{length-take-le}
-use Rattle.walk.specs.WalkState.{walkState}
-use Rattle.checking.proofs.Comparing.{scratch-room}
+use Rattle.walk.specs.WalkState.{walk_state}
+use Rattle.checking.proofs.Comparing.{scratch_room}
 use borrow.Author.Rules.{rules}
 use Rattle.checking.proofs.row.row_is.Statement.{statement}
 use Rattle.checking.proofs.row.row_is.Tie as tie
 
 -- The scratch has room for d values of as many words as each has.
-room : (c : tie.After-value-words) → c.before.before.before.args.start.d * c.value-words.result ≤ 80
-unfolding walkState
-room c = rw c.value-words.ensures (scratch-room c.before.before.before.requires)
+room : (c : tie.After-value-words) → c.before.before.before.args.start.d * c.value_words.result ≤ 80
+unfolding walk_state
+room c = rw c.value_words.ensures (scratch_room c.before.before.before.requires)
 
 value-words-requires : tie.Need-value-words-requires
 value-words-requires c κs = search rules
@@ -28,11 +28,11 @@ slice-aggregate-row-is-in : tie.Need-slice-aggregate-row-is-in
 slice-aggregate-row-is-in c = sym (length-take-le _ _ (room c.before))
 
 row-is-in-requires : tie.Need-row-is-in-requires
-unfolding walkState
+unfolding walk_state
 row-is-in-requires c κs =
     let v = c.before in
     let b = v.before.before.before in
-    (b.requires, length-take-le _ _ (room v) ∙ ap (λ k. b.args.start.d * k) v.value-words.ensures)
+    (b.requires, length-take-le _ _ (room v) ∙ ap (λ k. b.args.start.d * k) v.value_words.ensures)
 
 returns : tie.Need-returns
 returns c = search rules

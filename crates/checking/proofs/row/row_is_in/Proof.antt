@@ -3,8 +3,8 @@
 use mathlib.Core.Path.{sym, ap, ◌∙◌}
 use native.Mathlib.Omega.{arith}
 use Prim.Native.Nat.{◌*◌}
-use Rattle.ladder.specs.Numbers.{valueWords, scalarWords}
-use Rattle.walk.specs.WalkState.{walkState}
+use Rattle.ladder.specs.Numbers.{value_words, scalar_words}
+use Rattle.walk.specs.WalkState.{walk_state}
 use Rattle.values.specs.Inner.{AtStart}
 use Rattle.checking.proofs.Comparing.{same_row}
 use borrow.Author.Rules.{rules}
@@ -20,8 +20,8 @@ written c = c.before.before.before
 
 -- The walk can be taken with these values.
 begun : (c : tie.After-answer-values-arg)
-    → let a = (entry c).args in AtStart (walkState a.start) a.l a.bits.now a.values.now
-unfolding walkState
+    → let a = (entry c).args in AtStart (walk_state a.start) a.l a.bits.now a.values.now
+unfolding walk_state
 begun c = let b = entry c in b.pre.0.begun b.args.values.now b.pre.1
 
 answer-values-requires : tie.Need-answer-values-requires
@@ -31,20 +31,20 @@ value-words-requires : tie.Need-value-words-requires
 value-words-requires c κs = search rules
 
 scalar-words-requires : tie.Need-scalar-words-requires
-scalar-words-requires c κs = (begun (written c).before).lHigh
+scalar-words-requires c κs = (begun (written c).before).l_high
 
 same-values-requires : tie.Need-same-values-requires
-unfolding walkState valueWords scalarWords
+unfolding walk_state value_words scalar_words
 same-values-requires c κs =
     let v = c.before.before in
     let b = entry (written v).before in
     let a = begun (written v).before in
-    let k = v.value-words.ensures in
+    let k = v.value_words.ensures in
     let n = c.before.scalar-words.ensures in
     let as_long = (written v).answer-values.auto.1.1.1.1.0 in (
       a.ready.high,
       (
-        omega (arith, k, a.lHigh),
+        omega (arith, k, a.l_high),
         (
           omega (arith, k, n),
           (
@@ -59,13 +59,13 @@ same_length : tie.Need-same-length
 same_length c = search rules
 
 returns : tie.Need-returns
-unfolding walkState
+unfolding walk_state
 returns c =
     let v = c.before.before.before in
     let a = (entry (written v).before).args in
     c.same-values.ensures
-    ∙ same_row (walkState a.start) a.l a.bits.now a.row a.scalars.now _ _ _
-    v.value-words.ensures c.before.before.scalar-words.ensures (written v).answer-values.ensures
+    ∙ same_row (walk_state a.start) a.l a.bits.now a.row a.scalars.now _ _ _
+    v.value_words.ensures c.before.before.scalar-words.ensures (written v).answer-values.ensures
 
 pub row-is-in-spec : {M : Type 1} → statement M
 row-is-in-spec =

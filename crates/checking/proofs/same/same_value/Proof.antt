@@ -6,7 +6,7 @@ use native.Mathlib.Nat.{not-suc-le-zero}
 use native.Mathlib.Omega.{arith}
 use borrow.Author.Count.{below_more}
 use lib.ListN.{length, get_or}
-use Rattle.checking.proofs.Equality.{values_same, values-differ}
+use Rattle.checking.proofs.Equality.{values_same, values_differ}
 use borrow.Author.Rules.{rules}
 use Rattle.checking.proofs.same.same_value.Statement.{statement}
 use Rattle.checking.proofs.same.same_value.Tie as tie
@@ -33,7 +33,7 @@ returns : tie.Need-returns invariant-loop decreases-loop
 returns c =
     let b = c.before.before.before.before in
     let a = b.before.before.before.args in
-    values-differ a.value.now a.scalar.now (λ i. (b.before.before.shared-slice-known.given i).fits)
+    values_differ a.value.now a.scalar.now (λ i. (b.before.before.shared-slice-known.given i).fits)
     (λ i. (b.before.shared-slice-known2.given i).fits) b.loop.i (λ e. c.if1.true (e ∙ sym c.before.word.ensures))
 
 add-i : tie.Need-overflow-add-i invariant-loop decreases-loop

@@ -8,14 +8,14 @@ use borrow.Author.Count.{below_more}
 use borrow.Author.Tests.{not-true, not-false, eqb-true, eqb-false}
 use lib.Dec.{eqb}
 use lib.ListN.{length, get_or}
-use Rattle.ladder.specs.Numbers.{numbersOf}
-use Rattle.ladder.proofs.Numbers.{own-within}
-use Rattle.checking.proofs.Equality.{lent-number, part-lengths, numbers-agree, numbers_apart}
+use Rattle.ladder.specs.Numbers.{numbers_of}
+use Rattle.ladder.proofs.Numbers.{own_within}
+use Rattle.checking.proofs.Equality.{lent_number, part_lengths, numbers_agree, numbers_apart}
 use Rattle.checking.proofs.same.same_values.Statement.{statement}
 use Rattle.checking.proofs.same.same_values.Tie as tie
 
 abbrev invariant-loop : tie.invariant-loop
-invariant-loop d k n values scalars j₀ j = (j ≤ d) × ((i : ℕ) → i < j → get_or (numbersOf d k values) i 0 ≡ get_or (numbersOf d n scalars) i 0)
+invariant-loop d k n values scalars j₀ j = (j ≤ d) × ((i : ℕ) → i < j → get_or (numbers_of d k values) i 0 ≡ get_or (numbers_of d n scalars) i 0)
 
 abbrev decreases-loop : tie.decreases-loop
 decreases-loop d k n values scalars j₀ j = d - j
@@ -30,22 +30,22 @@ test c = c.before.before.before
 -- Value j lies in the values, scalar j in the scalars ..
 value-within : (c : tie.In-loop invariant-loop decreases-loop)
     → let a = (entry c).args in c.before.loop.j * a.k + a.k ≤ length a.values.now
-value-within c = let a = (entry c).args in own-within a.d a.k _ c.before.loop.j (entry c).requires.1.1.1.0 (omega arith)
+value-within c = let a = (entry c).args in own_within a.d a.k _ c.before.loop.j (entry c).requires.1.1.1.0 (omega arith)
 
 scalar-within : (c : tie.In-loop invariant-loop decreases-loop)
     → let a = (entry c).args in c.before.loop.j * a.n + a.n ≤ length a.scalars.now
-scalar-within c = let a = (entry c).args in own-within a.d a.n _ c.before.loop.j (entry c).requires.1.1.1.1 (omega arith)
+scalar-within c = let a = (entry c).args in own_within a.d a.n _ c.before.loop.j (entry c).requires.1.1.1.1 (omega arith)
 
 -- .. and comparing them says whether the two numbers are the same.
 says : (c : tie.After-same-value invariant-loop decreases-loop)
     → let a = (entry (test c)).args in
     let j = (test c).before.loop.j in
-    c.same-value.result ≡ eqb (get_or (numbersOf a.d a.k a.values.now) j 0) (get_or (numbersOf a.d a.n a.scalars.now) j 0)
+    c.same-value.result ≡ eqb (get_or (numbers_of a.d a.k a.values.now) j 0) (get_or (numbers_of a.d a.n a.scalars.now) j 0)
 says c =
     let a = (entry (test c)).args in
     let j = (test c).before.loop.j in
     c.same-value.ensures
-    ∙ ap₂ eqb (lent-number a.d a.k j a.values.now (omega arith)) (lent-number a.d a.n j a.scalars.now (omega arith))
+    ∙ ap₂ eqb (lent_number a.d a.k j a.values.now (omega arith)) (lent_number a.d a.n j a.scalars.now (omega arith))
 
 loop-holds : tie.Need-loop-init invariant-loop decreases-loop
 loop-holds c = (omega arith, λ i h. absurd (not-suc-le-zero h))
@@ -91,7 +91,7 @@ same-value-requires c κs =
     let t = c.before.before in
     let b = entry t in
     let a = b.args in
-    part-lengths t.before.loop.j a.k a.n a.values.now a.scalars.now b.pre.1.1.0 (value-within t) (scalar-within t)
+    part_lengths t.before.loop.j a.k a.n a.values.now a.scalars.now b.pre.1.1.0 (value-within t) (scalar-within t)
 
 returns : tie.Need-returns invariant-loop decreases-loop
 returns c =
@@ -113,7 +113,7 @@ loop-again c =
 returns-2 : tie.Need-returns-2 invariant-loop decreases-loop
 returns-2 c =
     let a = c.before.before.before.before.args in
-    numbers-agree a.d a.k a.n a.values.now a.scalars.now (λ i h. c.before.loop.invariant.1 i (omega arith))
+    numbers_agree a.d a.k a.n a.values.now a.scalars.now (λ i h. c.before.loop.invariant.1 i (omega arith))
 
 pub same-values-spec : {M : Type 1} → statement M
 same-values-spec =

@@ -1,17 +1,17 @@
--- `decode` keeps its promise: a plan that is not refused can be walked (`at-start`), and the row that the walk yields is the answer row
--- of the last matrix (`row-decoded`).
+-- `decode` keeps its promise: a plan that is not refused can be walked (`at_start`), and the row that the walk yields is the answer row
+-- of the last matrix (`row_decoded`).
 -- Assumes nothing.
 use Prim.Native.Nat.{ℕ}
 use mathlib.Core.Path.{◌≡◌, sym, ◌∙◌}
 use mathlib.Core.List.{List}
 use native.Mathlib.Omega.{arith}
-use Rattle.ladder.specs.Plan.{Plan, planLent}
-use Rattle.ladder.specs.Refusals.{decodeRefusal}
-use Rattle.ladder.proofs.Operations.{DecodeOk, decode-none}
-use Rattle.ladder.proofs.Tests.{refusing-no, refusing-yes}
-use Rattle.judge.proofs.Judged.{values-beside}
-use Rattle.judge.proofs.Starting.{can-start}
-use Rattle.values.proofs.Decoded.{begun-d, at-start, row-decoded}
+use Rattle.ladder.specs.Plan.{Plan, plan_lent}
+use Rattle.ladder.specs.Refusals.{decode_refusal}
+use Rattle.ladder.proofs.Operations.{DecodeOk, decode_none}
+use Rattle.ladder.proofs.Tests.{refusing_no, refusing_yes}
+use Rattle.judge.proofs.Judged.{values_beside}
+use Rattle.judge.proofs.Starting.{can_start}
+use Rattle.values.proofs.Decoded.{begun_d, at_start, row_decoded}
 use borrow.Author.Rules.{rules}
 use Rattle.decode.proofs.call.decode.Statement.{statement}
 use Rattle.decode.proofs.call.decode.Tie as tie
@@ -21,17 +21,17 @@ abbrev entry : tie.After-loose-refusal → tie.Start
 entry c = c.before.before.before.before
 
 abbrev lent : tie.After-loose-refusal → Plan
-lent c = let a = (entry c).args in planLent a.d a.l a.start.now a.bits.now a.row
+lent c = let a = (entry c).args in plan_lent a.d a.l a.start.now a.bits.now a.row
 
 abbrev came : tie.After-loose-refusal → List ℕ
 came c = (entry c).args.values.now
 
-judged : (c : tie.After-loose-refusal) → c.loose-refusal.result ≡ decodeRefusal (lent c) (came c)
-judged c = c.loose-refusal.ensures ∙ values-beside (lent c) (came c)
+judged : (c : tie.After-loose-refusal) → c.loose-refusal.result ≡ decode_refusal (lent c) (came c)
+judged c = c.loose-refusal.ensures ∙ values_beside (lent c) (came c)
 
 -- Where nothing is refused, the plan is accepted, and every buffer has its length.
 asked : (e : tie.Else1) → DecodeOk (lent e.before) (came e.before)
-asked e = (decode-none (lent e.before) (came e.before)).0 (sym (judged e.before) ∙ e.if1.false)
+asked e = (decode_none (lent e.before) (came e.before)).0 (sym (judged e.before) ∙ e.if1.false)
 
 loose-refusal-requires : tie.Need-loose-refusal-requires
 loose-refusal-requires c κs = search rules
@@ -39,14 +39,14 @@ loose-refusal-requires c κs = search rules
 returns : tie.Need-returns
 returns c = record {
   refusal_is = judged c.before;
-  values-are = sym (refusing-yes _ _ _ c.if1.true);
+  values_are = sym (refusing_yes _ _ _ c.if1.true);
 }
 
 start-walk-requires : tie.Need-start-walk-requires
-start-walk-requires c κs = can-start (lent c.before) (asked c).plan.plan
+start-walk-requires c κs = can_start (lent c.before) (asked c).plan.plan
 
 sub-answer-values : tie.Need-overflow-sub-answer-values
-sub-answer-values c = (asked c.before).plan.plan.answerLow
+sub-answer-values c = (asked c.before).plan.plan.answer_low
 
 answer-values-requires : tie.Need-answer-values-requires
 answer-values-requires c κs =
@@ -54,7 +54,7 @@ answer-values-requires c κs =
     let p = lent e.before in
     let ok = asked e in
     let begun = c.before.start-walk.ensures in
-    (omega (arith, begun-d p begun, ok.plan.plan.answerHigh), at-start p begun ok.plan _ ok.valuesLong)
+    (omega (arith, begun_d p begun, ok.plan.plan.answer_high), at_start p begun ok.plan _ ok.values_long)
 
 same_length : tie.Need-same-length
 same_length c = search rules
@@ -65,10 +65,10 @@ returns-2 c =
     let e = s.before in
     record {
       refusal_is = judged e.before;
-      values-are =
+      values_are =
           c.before.before.answer-values.ensures
-          ∙ row-decoded (lent e.before) s.start-walk.ensures (asked e).plan.plan
-          ∙ sym (refusing-no _ _ _ e.if1.false);
+          ∙ row_decoded (lent e.before) s.start-walk.ensures (asked e).plan.plan
+          ∙ sym (refusing_no _ _ _ e.if1.false);
     }
 
 pub decode-spec : {M : Type 1} → statement M

@@ -1,13 +1,13 @@
--- `difference_accepted` meets its contract: a run that is not refused can be made (`startable`, `difference-steps-ask`), and its registers
+-- `difference_accepted` meets its contract: a run that is not refused can be made (`startable`, `difference_steps_ask`), and its registers
 -- are those of its own rule (`difference-ran`).
 -- Assumes nothing.
 use Rattle.std.proofs.Common.{◌≡◌, ℕ, ◌+◌, ◌^◌, ◌<◌, ◌≤◌, length, get_or, take, sym, ap, ◌∙◌, add-one, arith, length-take-le, rules}
-use Rattle.ladder.specs.Plan.{Plan, planLent}
+use Rattle.ladder.specs.Plan.{Plan, plan_lent}
 use Rattle.ladder.proofs.Operations.{RunOk, run_none}
-use Rattle.walk.specs.WalkState.{walkState}
-use Rattle.judge.proofs.Starting.{can-start}
-use Rattle.registers.proofs.Ran.{startable, room, run-left}
-use Rattle.difference.proofs.Ran.{difference-steps-ask, difference-ran}
+use Rattle.walk.specs.WalkState.{walk_state}
+use Rattle.judge.proofs.Starting.{can_start}
+use Rattle.registers.proofs.Ran.{startable, room, run_left}
+use Rattle.difference.proofs.Ran.{difference_steps_ask, difference-ran}
 use Rattle.difference.proofs.accepted.difference_accepted.Statement.{statement}
 use Rattle.difference.proofs.accepted.difference_accepted.Tie as tie
 
@@ -23,7 +23,7 @@ begun c = c.before.before
 
 -- The plan that is lent.
 abbrev lent : tie.Start → Plan
-lent s = let a = s.args in planLent a.d a.l a.start.now a.bits.now a.row
+lent s = let a = s.args in plan_lent a.d a.l a.start.now a.bits.now a.row
 
 -- It is accepted, every buffer has its length, and the elements are elements ..
 ok : (s : tie.Start) → RunOk (lent s) s.args.m s.args.elements.now s.args.registers.now
@@ -37,19 +37,19 @@ start-registers-requires : tie.Need-start-registers-requires
 start-registers-requires c κs = startable (ok (known c)) (words c)
 
 start-walk-requires : tie.Need-start-walk-requires
-start-walk-requires c κs = can-start (lent (entry c)) (ok (entry c)).plan.plan
+start-walk-requires c κs = can_start (lent (entry c)) (ok (entry c)).plan.plan
 
 difference-steps-requires : tie.Need-difference-steps-requires
 difference-steps-requires c κs =
     let f = c.before in
-    difference-steps-ask (ok (entry f)) (words f.before) f.start-registers.result f.start-registers.ensures _ c.start-walk.ensures
+    difference_steps_ask (ok (entry f)) (words f.before) f.start_registers.result f.start_registers.ensures _ c.start-walk.ensures
 
 -- The end registers: nine, of which d + 1 are used ..
 nine : (c : tie.After-difference-steps) → length c.difference-steps.result ≡ 9
 nine c = search (c.difference-steps.type-inv, rules)
 
 small : (c : tie.After-difference-steps) → (entry (begun c)).args.d + 1 ≤ 9
-small c = omega (arith, (ok (entry (begun c))).plan.plan.dHigh)
+small c = omega (arith, (ok (entry (begun c))).plan.plan.d_high)
 
 -- .. and there are as many in the caller's words.
 as_many : (c : tie.After-difference-steps)
@@ -81,21 +81,21 @@ finish-requires c κs =
     let f = begun (ended stored) in
     let o = (ok (entry f)).plan.plan in
     let held = ap length stored.store.ensures ∙ as_many (ended stored) ∙ (room (ok (entry f)) (words f.before)).0 in
-    (o.dHigh, (o.lHigh, (o.answerLow, (omega (arith, o.answerHigh), omega (arith, held)))))
+    (o.d_high, (o.l_high, (o.answer_low, (omega (arith, o.answer_high), omega (arith, held)))))
 
 same_length : tie.Need-same-length
 same_length c = search rules
 
 returns : tie.Need-returns
-unfolding walkState
+unfolding walk_state
 returns c =
     let stored = c.before.before.before.before in
     let steps = ended stored in
     let f = begun steps in
     let held =
-    difference-ran (ok (entry f)) (words f.before) f.start-registers.result f.start-registers.ensures _ steps.before.start-walk.ensures
+    difference-ran (ok (entry f)) (words f.before) f.start_registers.result f.start_registers.ensures _ steps.before.start-walk.ensures
     steps.difference-steps.result steps.difference-steps.ensures in
-    run-left (lent (entry f)) _ _ _
+    run_left (lent (entry f)) _ _ _
     (stored.store.ensures ∙ ap (λ n. take n steps.difference-steps.result) (add-one (entry f).args.d) ∙ held) c.finish.ensures
 
 pub difference-accepted-spec : {M : Type 1} → statement M

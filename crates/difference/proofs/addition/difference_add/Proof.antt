@@ -3,9 +3,9 @@
 -- Assumes nothing.
 use Rattle.std.proofs.Common.{◌-◌, ◌%◌, ◌<◌, length, get_or, pos, sym, ap, ◌∙◌, subst, arith, to_z-of_z, w8, SFits, rules}
 use Rattle.ladder.specs.Matrix.{IsSmall}
-use Rattle.ladder.specs.Registers.{modulus, timesSigned}
-use Rattle.registers.proofs.ByModulus.{below-modulus}
-use Rattle.difference.proofs.Combining.{Combining, combining-start, combining-next, combining-end}
+use Rattle.ladder.specs.Registers.{modulus, times_signed}
+use Rattle.registers.proofs.ByModulus.{below_modulus}
+use Rattle.difference.proofs.Combining.{Combining, combining_start, combining_next, combining_end}
 use Rattle.difference.proofs.addition.difference_add.Statement.{statement}
 use Rattle.difference.proofs.addition.difference_add.Tie as tie
 
@@ -20,12 +20,12 @@ abbrev entered : tie.At-loop invariant-loop decreases-loop → tie.Start invaria
 entered l = l.before.before.before
 
 add-requires : tie.Need-add-requires invariant-loop decreases-loop
-add-requires c κs = let p = c.before.requires in (p.mHigh, (p.register, p.register))
+add-requires c κs = let p = c.before.requires in (p.m_high, (p.register, p.register))
 
 loop-holds : tie.Need-loop-init invariant-loop decreases-loop
 loop-holds c =
     let a = c.before.before.args in
-    combining-start a.m a.elements.now a.vector.now a.x _ c.add.ensures
+    combining_start a.m a.elements.now a.vector.now a.x _ c.add.ensures
 
 shared-slice-copy-out-times : tie.Need-shared-slice-copy-out-times invariant-loop decreases-loop
 shared-slice-copy-out-times c = omega (arith, c.loop-test.true, (entered c.before).pre.wide)
@@ -48,8 +48,8 @@ add-requires-2 : tie.Need-add-requires-2 invariant-loop decreases-loop
 add-requires-2 c κs =
     let l = c.before.before.before.before in
     let s = entered l in
-    let below : c.times.result < modulus s.args.m = rw c.times.ensures (below-modulus s.args.m _) in
-    (s.pre.mHigh, (l.loop.invariant.below, below))
+    let below : c.times.result < modulus s.args.m = rw c.times.ensures (below_modulus s.args.m _) in
+    (s.pre.m_high, (l.loop.invariant.below, below))
 
 add-j : tie.Need-overflow-add-j invariant-loop decreases-loop
 add-j c = search rules
@@ -64,17 +64,17 @@ loop-again c =
     let a = s.args in
     let here = c.before.before.before.before.loop-test.true in
     let fits : SFits w8 (get_or a.vector.now l.loop.j (pos 0)) = search rules in
-    combining-next a.m a.elements.now a.vector.now a.x l.loop.invariant here (omega (arith, here, s.pre.wide))
+    combining_next a.m a.elements.now a.vector.now a.x l.loop.invariant here (omega (arith, here, s.pre.wide))
     c.before.times.result
     (c.before.times.ensures
-    ∙ ap (λ z. timesSigned a.m z (get_or a.elements.now l.loop.j 0) % modulus a.m) (to_z-of_z fits))
+    ∙ ap (λ z. times_signed a.m z (get_or a.elements.now l.loop.j 0) % modulus a.m) (to_z-of_z fits))
     _ c.add2.ensures
 
 returns : tie.Need-returns invariant-loop decreases-loop
 returns c =
     let s = entered c.before in
     let a = s.args in
-    combining-end a.m a.elements.now a.vector.now a.x c.before.loop.invariant (search rules)
+    combining_end a.m a.elements.now a.vector.now a.x c.before.loop.invariant (search rules)
     (omega (arith, s.pre.wide, c.loop-test.false))
 
 pub difference-add-spec : {M : Type 1} → statement M

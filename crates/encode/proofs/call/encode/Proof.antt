@@ -1,12 +1,12 @@
--- `encode` keeps its promise, on refusal and on accepted input (`kept-refused`, `kept-accepted`). Rests on what an input that is not
--- refused is (`encode-none`).
+-- `encode` keeps its promise, on refusal and on accepted input (`kept_refused`, `kept_accepted`). Rests on what an input that is not
+-- refused is (`encode_none`).
 -- Assumes nothing.
 use mathlib.Core.Path.{sym, ◌∙◌}
 use native.Mathlib.Omega.{arith}
 use borrow.Author.Rules.{rules}
-use Rattle.ladder.specs.Numbers.{startLength}
-use Rattle.ladder.proofs.Operations.{EncodeOk, encode-none}
-use Rattle.encode.proofs.Kept.{fitting, kept-refused, kept-accepted, house-arranged, few-odd}
+use Rattle.ladder.specs.Numbers.{start_length}
+use Rattle.ladder.proofs.Operations.{EncodeOk, encode_none}
+use Rattle.encode.proofs.Kept.{fitting, kept_refused, kept_accepted, house_arranged, few_odd}
 use Rattle.encode.proofs.call.encode.Statement.{statement}
 use Rattle.encode.proofs.call.encode.Tie as tie
 
@@ -32,27 +32,27 @@ same-length-2 : tie.Need-same-length-2
 same-length-2 c = search rules
 
 returns : tie.Need-returns
-returns c = kept-refused _ _ _ _ _ _ c.before.encode-refusal.ensures c.if1.true
+returns c = kept_refused _ _ _ _ _ _ c.before.encode-refusal.ensures c.if1.true
 
 -- Where nothing is refused, the input is what encode asks.
 asked : (e : tie.Else1) → let a = (entry e.before).args in EncodeOk a.d a.l a.scalars.now a.start.now a.bits.now
-asked e = (encode-none _ _ _ _ _).0 (sym e.before.encode-refusal.ensures ∙ e.if1.false)
+asked e = (encode_none _ _ _ _ _).0 (sym e.before.encode-refusal.ensures ∙ e.if1.false)
 
 house-order-requires : tie.Need-house-order-requires
 house-order-requires c κs = fitting (asked c)
 
 encode-with-requires : tie.Need-encode-with-requires
-unfolding startLength
+unfolding start_length
 encode-with-requires c κs =
     let order = c.before.before in
     let ok = asked order.before in
-    (fitting ok, (house-arranged _ _ _ _ order.house-order.ensures, (ok.startLong, ok.bitsLong)))
+    (fitting ok, (house_arranged _ _ _ _ order.house-order.ensures, (ok.start_long, ok.bits_long)))
 
 odd-count-requires : tie.Need-odd-count-requires
 odd-count-requires c κs = (fitting (asked (ordered (wrote c)).before)).shaped
 
 add-t21 : tie.Need-overflow-add-t21
-add-t21 c = omega (arith, few-odd (asked (ordered (wrote c.before)).before) c.odd-count.result c.odd-count.ensures)
+add-t21 c = omega (arith, few_odd (asked (ordered (wrote c.before)).before) c.odd-count.result c.odd-count.ensures)
 
 same-length-3 : tie.Need-same-length-3
 same-length-3 c = search rules
@@ -65,7 +65,7 @@ returns-2 c =
     let plan = wrote c.before in
     let order = ordered plan in
     let judged = order.before.before in
-    kept-accepted _ _ _ _ _ _ judged.encode-refusal.ensures order.before.if1.left _ _ _ _
+    kept_accepted _ _ _ _ _ _ judged.encode-refusal.ensures order.before.if1.left _ _ _ _
     order.house-order.ensures plan.encode-with.ensures.0 plan.encode-with.ensures.1 c.odd-count.ensures
 
 pub encode-spec : {M : Type 1} → statement M

@@ -1,4 +1,4 @@
--- `deal` meets its contract. The loop's invariant: r is the bits of the first k places as one number. Rests on `dealt-more`.
+-- `deal` meets its contract. The loop's invariant: r is the bits of the first k places as one number. Rests on `dealt_more`.
 -- Assumes nothing.
 use Prim.Native.Nat.{◌≤◌, ◌<◌, ◌-◌, ◌^◌}
 use mathlib.Core.Path.{◌≡◌, refl}
@@ -8,19 +8,19 @@ use lib.ListN.{take, length}
 use lib.Pow.{pow_mono}
 use Rattle.ladder.specs.Lists.{tabulate}
 use Rattle.ladder.specs.Walk.{bits_of}
-use Rattle.encode.specs.Inner.Order.{dealtBy}
-use Rattle.encode.proofs.Dealt.{dealt-small, dealt-more}
+use Rattle.encode.specs.Inner.Order.{dealt_by}
+use Rattle.encode.proofs.Dealt.{dealt_small, dealt_more}
 use Rattle.encode.proofs.dealing.deal.Statement.{statement}
 use Rattle.encode.proofs.dealing.deal.Tie as tie
 
 abbrev invariant-loop : tie.invariant-loop
-invariant-loop d dealt order r₀ k₀ r k = (k ≤ d) × (r < 2 ^ k) × (bits_of k r ≡ dealtBy dealt (take k order))
+invariant-loop d dealt order r₀ k₀ r k = (k ≤ d) × (r < 2 ^ k) × (bits_of k r ≡ dealt_by dealt (take k order))
 
 abbrev decreases-loop : tie.decreases-loop
 decreases-loop d dealt order r₀ k₀ r k = d - k
 
 loop-holds : tie.Need-loop-init invariant-loop decreases-loop
-unfolding bits_of tabulate dealtBy
+unfolding bits_of tabulate dealt_by
 loop-holds c = (omega arith, omega arith, refl)
 
 array-read-j : tie.Need-array-read-j invariant-loop decreases-loop
@@ -54,8 +54,8 @@ loop-again c =
     let l = c.before.loop in
     let wide : length a.t1 ≡ 8 = search rules in (
       omega arith,
-      dealt-small a.dealt a.t1 l.r l.k (omega arith) l.invariant.1,
-      dealt-more a.dealt a.t1 l.r l.k (omega arith) l.invariant.2,
+      dealt_small a.dealt a.t1 l.r l.k (omega arith) l.invariant.1,
+      dealt_more a.dealt a.t1 l.r l.k (omega arith) l.invariant.2,
     )
 
 returns : tie.Need-returns invariant-loop decreases-loop

@@ -8,7 +8,7 @@ use borrow.Author.Rules.{rules}
 use lib.ListN.{take, set, length, length-set}
 use lib.Seq.{length-take-le}
 use Rattle.ladder.specs.Walk.{bits_of}
-use Rattle.encode.proofs.Filled.{Filled, nothing-filled, one-more-filled, all-filled}
+use Rattle.encode.proofs.Filled.{Filled, nothing_filled, one_more_filled, all-filled}
 use Rattle.encode.proofs.order.rearrange.Statement.{statement}
 use Rattle.encode.proofs.order.rearrange.Tie as tie
 
@@ -23,7 +23,7 @@ loop-holds : tie.Need-loop-init invariant-loop decreases-loop
 loop-holds c =
     let a = c.args in
     let wide : length a.t1 ≡ 8 = search rules in
-    (refl, nothing-filled a.t1 a.d a.r (omega arith) _ (length-take-le a.d _ (omega arith)))
+    (refl, nothing_filled a.t1 a.d a.r (omega arith) _ (length-take-le a.d _ (omega arith)))
 
 sub-after : tie.Need-overflow-sub-after invariant-loop decreases-loop
 sub-after c = search rules
@@ -58,7 +58,7 @@ loop-again c =
     let l = c.before.loop in
     let wide : length a.t1 ≡ 8 = search rules in (
       length-set (set l.out l.front _) (l.front + (l.left - 1)) _ ∙ length-set l.out l.front _ ∙ l.invariant.0,
-      one-more-filled a.t1 a.d a.r (omega arith) l.out l.left l.front (omega arith) (omega arith) (omega arith) l.invariant.1,
+      one_more_filled a.t1 a.d a.r (omega arith) l.out l.left l.front (omega arith) (omega arith) (omega arith) l.invariant.1,
     )
 
 returns : tie.Need-returns invariant-loop decreases-loop

@@ -1,10 +1,10 @@
--- `put` meets its contract. Rests on `put-held` and `put_byte`; the shift loses nothing (`shifted`).
+-- `put` meets its contract. Rests on `put_held` and `put_byte`; the shift loses nothing (`shifted`).
 -- Assumes nothing.
 use Prim.Native.Nat.{◌+◌}
 use native.Mathlib.Omega.{arith}
 use borrow.Author.Rules.{rules}
 use lib.Pow.{pow_mono}
-use Rattle.encode.proofs.Written.{shifted, filled-below, put-held, put_byte}
+use Rattle.encode.proofs.Written.{shifted, filled_below, put_held, put_byte}
 use Rattle.encode.proofs.packing.put.Statement.{statement}
 use Rattle.encode.proofs.packing.put.Tie as tie
 
@@ -21,7 +21,7 @@ add-fill c =
     omega (
       arith,
       shifted a.p a.d a.r a.bits.now room,
-      filled-below a.p a.d a.r a.bits.now room,
+      filled_below a.p a.d a.r a.bits.now room,
       pow_mono {i = a.p.held + a.d} {j = 16} (omega arith),
     )
 
@@ -29,7 +29,7 @@ returns : tie.Need-returns
 returns c =
     let a = c.before.before.before.args in
     let room = c.before.before.before.requires in
-    rw (shifted a.p a.d a.r a.bits.now room) (put-held a.p a.d a.r a.bits.now room c.if1.true)
+    rw (shifted a.p a.d a.r a.bits.now room) (put_held a.p a.d a.r a.bits.now room c.if1.true)
 
 cast-bits : tie.Need-overflow-cast-bits
 cast-bits c = search rules

@@ -7,15 +7,15 @@ use mathlib.Core.List.{map}
 use native.Mathlib.Omega.{arith}
 use borrow.Author.Rules.{rules}
 use lib.ListN.{take}
-use Rattle.ladder.specs.Numbers.{numbersOf, scalarWords}
-use Rattle.ladder.proofs.Bits.{bits-bound}
-use Rattle.encode.proofs.Backward.{Behind, fitting-bits, few-filling, nothing-behind, columns, room, one-more-behind, all-behind-order, all-behind-bits}
+use Rattle.ladder.specs.Numbers.{numbers_of, scalar_words}
+use Rattle.ladder.proofs.Bits.{bits_bound}
+use Rattle.encode.proofs.Backward.{Behind, fitting_bits, few_filling, nothing_behind, columns, room, one_more_behind, all_behind_order, all_behind_bits}
 use Rattle.encode.proofs.steps.encode_with.Statement.{statement}
 use Rattle.encode.proofs.steps.encode_with.Tie as tie
 
 abbrev invariant-loop : tie.invariant-loop
 invariant-loop d l scalars start bits₀ order₀ packing₀ below₀ i₀ bits order packing below i =
-    Behind d l (numbersOf d (scalarWords l) scalars) (take d order₀) i bits order packing below
+    Behind d l (numbers_of d (scalar_words l) scalars) (take d order₀) i bits order packing below
 
 abbrev decreases-loop : tie.decreases-loop
 decreases-loop d l scalars start bits₀ order₀ packing₀ below₀ i₀ bits order packing below i = l - i
@@ -36,17 +36,17 @@ mul-t17 : tie.Need-overflow-mul-t17 invariant-loop decreases-loop
 mul-t17 c =
     let s = entry c in
     let a = s.args in
-    omega (arith, bits-bound a.d a.l (omega arith) (omega arith), few-filling a.d a.l a.bits.now s.pre.1.1.1)
+    omega (arith, bits_bound a.d a.l (omega arith) (omega arith), few_filling a.d a.l a.bits.now s.pre.1.1.1)
 
 mul-t18 : tie.Need-overflow-mul-t18 invariant-loop decreases-loop
 mul-t18 c =
     let a = (entry c).args in
-    omega (arith, bits-bound a.d a.l (omega arith) (omega arith))
+    omega (arith, bits_bound a.d a.l (omega arith) (omega arith))
 
 sub-t19 : tie.Need-overflow-sub-t19 invariant-loop decreases-loop
 sub-t19 c =
     let s = entry c in
-    fitting-bits s.args.d s.args.l s.args.bits.now s.pre.1.1.1
+    fitting_bits s.args.d s.args.l s.args.bits.now s.pre.1.1.1
 
 gather-requires : tie.Need-gather-requires invariant-loop decreases-loop
 gather-requires c κs = ((entry c).requires.0, omega arith)
@@ -55,7 +55,7 @@ loop-holds : tie.Need-loop-init invariant-loop decreases-loop
 loop-holds c =
     let s = entry c.before in
     let a = s.args in
-    nothing-behind a.d a.l a.bits.now s.pre.1.1.1 (numbersOf a.d (scalarWords a.l) a.scalars.now) a.end
+    nothing_behind a.d a.l a.bits.now s.pre.1.1.1 (numbers_of a.d (scalar_words a.l) a.scalars.now) a.end
     c.gather.result (λ i. omega (arith, c.before.slice-known2.given i)) c.gather.ensures
 
 add-gather : tie.Need-overflow-add-gather invariant-loop decreases-loop
@@ -92,7 +92,7 @@ loop-again c =
     let dealt = put.before.before in
     let turn = dealt.before.before in
     let s = entered turn.before in
-    one-more-behind s.pre.0 s.pre.1.0 turn.before.loop.invariant (omega (arith, turn.loop-test.true))
+    one_more_behind s.pre.0 s.pre.1.0 turn.before.loop.invariant (omega (arith, turn.loop-test.true))
     dealt.before.gather2.result dealt.deal.result dealt.before.gather2.ensures dealt.deal.ensures.0
     put.put.result _ c.rearrange.result put.put.ensures put.put.auto.1.1.1.0
     (λ i. omega (arith, c.before.slice-known3.given i)) c.rearrange.ensures
@@ -114,8 +114,8 @@ returns c =
     let s = entered (left c) in
     let l = (left c).loop in
     let done : s.args.l ≤ l.i = omega arith in (
-      c.before.before.write-start.ensures ∙ ap (map suc) (all-behind-order s.pre.0 s.pre.1.0 l.inv done),
-      all-behind-bits s.pre.0 s.pre.1.0 l.inv done,
+      c.before.before.write-start.ensures ∙ ap (map suc) (all_behind_order s.pre.0 s.pre.1.0 l.inv done),
+      all_behind_bits s.pre.0 s.pre.1.0 l.inv done,
     )
 
 pub encode-with-spec : {M : Type 1} → statement M

@@ -1,5 +1,5 @@
 -- `write_start` meets its contract. The loop's invariant: the first k columns are written, counted from 1. Rests on
--- `counted-more`.
+-- `counted_more`.
 -- Assumes nothing.
 use Prim.Native.Nat.{suc, ◌≤◌, ◌-◌}
 use mathlib.Core.Path.{◌≡◌, refl, sym, ◌∙◌}
@@ -8,7 +8,7 @@ use native.Mathlib.Omega.{arith}
 use borrow.Author.Rules.{rules}
 use lib.ListN.{take, length, length-set}
 use lib.Seq.{take_all}
-use Rattle.encode.proofs.Dealt.{counted-more}
+use Rattle.encode.proofs.Dealt.{counted_more}
 use Rattle.encode.proofs.steps.write_start.Statement.{statement}
 use Rattle.encode.proofs.steps.write_start.Tie as tie
 
@@ -43,7 +43,7 @@ loop-again c =
     let wide : length a.t1 ≡ 8 = search rules in (
       omega arith,
       length-set l.start l.k _ ∙ l.invariant.1,
-      counted-more a.t1 l.start l.k (omega arith) (omega arith) l.invariant.2,
+      counted_more a.t1 l.start l.k (omega arith) (omega arith) l.invariant.2,
     )
 
 same_length : tie.Need-same-length invariant-loop decreases-loop

@@ -2,8 +2,8 @@
 -- Assumes nothing.
 use mathlib.Core.Path.{sym, ap, ap₂, ◌∙◌}
 use Rattle.ladder.specs.Refusals.{◌then◌}
-use Rattle.ladder.specs.Numbers.{elementsLength, registersLength}
-use Rattle.judge.specs.Inner.{counted, besideShape}
+use Rattle.ladder.specs.Numbers.{elements_length, registers_length}
+use Rattle.judge.specs.Inner.{counted, beside_shape}
 use borrow.Author.Rules.{rules}
 use Rattle.judge.proofs.beside.others.Statement.{statement}
 use Rattle.judge.proofs.beside.others.Tie as tie
@@ -60,30 +60,30 @@ first-requires : tie.Need-first-requires
 first-requires c κs = search rules
 
 returns : tie.Need-returns
-unfolding besideShape counted
+unfolding beside_shape counted
 returns c =
-    c.shape.ensures ∙ ap (counted _) c.before.values_length.ensures ∙ ap (besideShape _ _) (sym c.before.before.before.beside.given.1)
+    c.shape.ensures ∙ ap (counted _) c.before.values_length.ensures ∙ ap (beside_shape _ _) (sym c.before.before.before.beside.given.1)
 
 returns-2 : tie.Need-returns-2
-unfolding besideShape counted
+unfolding beside_shape counted
 returns-2 c =
-    c.shape2.ensures ∙ ap (counted _) c.before.scalars-length.ensures ∙ ap (besideShape _ _) (sym c.before.before.before.beside2.given.1)
+    c.shape2.ensures ∙ ap (counted _) c.before.scalars_length.ensures ∙ ap (beside_shape _ _) (sym c.before.before.before.beside2.given.1)
 
 returns-3 : tie.Need-returns-3
-unfolding besideShape counted
+unfolding beside_shape counted
 returns-3 c =
-    c.shape3.ensures ∙ ap (counted _) c.before.trace-length.ensures ∙ ap (besideShape _ _) (sym c.before.before.before.beside3.given.1)
+    c.shape3.ensures ∙ ap (counted _) c.before.trace_length.ensures ∙ ap (beside_shape _ _) (sym c.before.before.before.beside3.given.1)
 
 returns-4 : tie.Need-returns-4
-unfolding besideShape counted
+unfolding beside_shape counted
 returns-4 c =
-    c.shape4.ensures ∙ ap (counted _) c.before.file-length.ensures ∙ ap (besideShape _ _) (sym c.before.before.before.beside4.given.1)
+    c.shape4.ensures ∙ ap (counted _) c.before.file_length.ensures ∙ ap (beside_shape _ _) (sym c.before.before.before.beside4.given.1)
 
 returns-5 : tie.Need-returns-5
-unfolding besideShape counted elementsLength registersLength
+unfolding beside_shape counted elements_length registers_length
 returns-5 c =
     c.first.ensures ∙ ap₂ ◌then◌ c.before.before.shape5.ensures c.before.shape6.ensures
-    ∙ ap (besideShape _ _) (sym c.before.before.before.before.beside5.given.1)
+    ∙ ap (beside_shape _ _) (sym c.before.before.before.before.beside5.given.1)
 
 pub others-spec : {M : Type 1} → statement M
 others-spec =

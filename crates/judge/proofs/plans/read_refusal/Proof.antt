@@ -1,7 +1,7 @@
 -- `read_refusal` meets its contract: the order, then the row.
 -- Assumes nothing.
 use mathlib.Core.Path.{ap₂, ◌∙◌}
-use Rattle.ladder.specs.Refusals.{◌then◌, readRefusal}
+use Rattle.ladder.specs.Refusals.{◌then◌, read_refusal}
 use borrow.Author.Rules.{rules}
 use Rattle.judge.proofs.plans.read_refusal.Statement.{statement}
 use Rattle.judge.proofs.plans.read_refusal.Tie as tie
@@ -16,7 +16,7 @@ first-requires : tie.Need-first-requires
 first-requires c κs = search rules
 
 returns : tie.Need-returns
-unfolding readRefusal
+unfolding read_refusal
 returns c = c.first.ensures ∙ ap₂ ◌then◌ c.before.before.order.ensures c.before.answer.ensures
 
 pub read-refusal-spec : {M : Type 1} → statement M

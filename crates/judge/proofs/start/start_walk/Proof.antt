@@ -3,9 +3,9 @@
 use Prim.Native.Nat.{◌-◌, ◌≤◌}
 use lib.ListN.{length}
 use native.Mathlib.Omega.{arith}
-use Rattle.ladder.proofs.Tests.{order-long}
-use Rattle.walk.specs.WalkState.{walkState}
-use Rattle.judge.proofs.Starting.{Starting, starting-starts, starting-next, starting-ends}
+use Rattle.ladder.proofs.Tests.{order_long}
+use Rattle.walk.specs.WalkState.{walk_state}
+use Rattle.judge.proofs.Starting.{Starting, starting_starts, starting_next, starting_ends}
 use Rattle.judge.proofs.start.start_walk.Statement.{statement}
 use Rattle.judge.proofs.start.start_walk.Tie as tie
 
@@ -17,10 +17,10 @@ decreases-loop d start order₀ signs₀ k₀ order signs k = length start - k
 
 -- There are at most eight places to fill.
 few : (s : tie.Start invariant-loop decreases-loop) → length s.args.start.now ≤ 8
-few s = omega (arith, order-long _ s.requires.1, s.requires.0)
+few s = omega (arith, order_long _ s.requires.1, s.requires.0)
 
 loop-holds : tie.Need-loop-init invariant-loop decreases-loop
-loop-holds c = starting-starts c.args.start.now
+loop-holds c = starting_starts c.args.start.now
 
 shared-slice-read-order : tie.Need-shared-slice-read-order invariant-loop decreases-loop
 shared-slice-read-order c = omega arith
@@ -40,13 +40,13 @@ loop-less c = omega arith
 loop-again : tie.Need-loop-preserved invariant-loop decreases-loop
 loop-again c =
     let b = c.before.before in
-    starting-next b.before.args.start.now b.loop.order b.loop.signs b.loop.k b.loop.invariant (omega arith) (omega (arith, few b.before))
+    starting_next b.before.args.start.now b.loop.order b.loop.signs b.loop.k b.loop.invariant (omega arith) (omega (arith, few b.before))
 
 returns : tie.Need-returns invariant-loop decreases-loop
-unfolding walkState
+unfolding walk_state
 returns c =
     let b = c.before in
-    starting-ends b.before.args.d b.before.args.start.now b.loop.order b.loop.signs b.loop.k b.loop.invariant (omega arith)
+    starting_ends b.before.args.d b.before.args.start.now b.loop.order b.loop.signs b.loop.k b.loop.invariant (omega arith)
     b.before.requires.1
 
 pub start-walk-spec : {M : Type 1} → statement M

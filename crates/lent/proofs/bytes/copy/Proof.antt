@@ -2,7 +2,7 @@
 -- Assumes nothing.
 use Prim.Native.Nat.{◌-◌}
 use lib.ListN.{length}
-use Rattle.lent.proofs.Copied.{Copying, copying-start, copying-next, copying-end}
+use Rattle.lent.proofs.Copied.{Copying, copying_start, copying_next, copying_end}
 use borrow.Author.Rules.{rules}
 use Rattle.lent.proofs.bytes.copy.Statement.{statement}
 use Rattle.lent.proofs.bytes.copy.Tie as tie
@@ -14,7 +14,7 @@ abbrev decreases-loop : tie.decreases-loop
 decreases-loop from to₀ at i₀ to i = length from - i
 
 loop-holds : tie.Need-loop-init invariant-loop decreases-loop
-loop-holds c = copying-start _ _ _
+loop-holds c = copying_start _ _ _
 
 shared-slice-read-to : tie.Need-shared-slice-read-to invariant-loop decreases-loop
 shared-slice-read-to c = search rules
@@ -32,13 +32,13 @@ loop-less : tie.Need-loop-smaller invariant-loop decreases-loop
 loop-less c = search rules
 
 loop-again : tie.Need-loop-preserved invariant-loop decreases-loop
-loop-again c = copying-next _ _ _ c.before.before.loop.invariant (search rules)
+loop-again c = copying_next _ _ _ c.before.before.loop.invariant (search rules)
 
 same_length : tie.Need-same-length invariant-loop decreases-loop
 same_length c = c.before.loop.invariant.long
 
 returns : tie.Need-returns invariant-loop decreases-loop
-returns c = copying-end _ _ _ c.before.loop.invariant (search rules)
+returns c = copying_end _ _ _ c.before.loop.invariant (search rules)
 
 pub copy_spec : {M : Type 1} → statement M
 copy_spec =

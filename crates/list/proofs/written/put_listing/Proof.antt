@@ -1,6 +1,6 @@
 -- `put_listing` meets its contract: the listing's own lines, or the line of its refusal (Listed).
 -- Assumes nothing.
-use Rattle.list.proofs.Listed.{line-fits, line-written, lines-written}
+use Rattle.list.proofs.Listed.{line_fits, line_written, lines_written}
 use borrow.Author.Rules.{rules}
 use Rattle.list.proofs.written.put_listing.Statement.{statement}
 use Rattle.list.proofs.written.put_listing.Tie as tie
@@ -16,7 +16,7 @@ put-refused-requires : tie.Need-put-refused-requires
 put-refused-requires c κs =
     let some = c.before in
     let r = some.before.before.before.before in
-    line-fits r.listing.ensures (entry r).requires some.if1.true
+    line_fits r.listing.ensures (entry r).requires some.if1.true
 
 same_length : tie.Need-same-length
 same_length c = search rules
@@ -26,7 +26,7 @@ returns c =
     let put = c.before.before in
     let some = put.before.before in
     let r = some.before.before.before.before in
-    line-written r.listing.ensures (entry r).requires some.if1.true put.Put-refused.ensures
+    line_written r.listing.ensures (entry r).requires some.if1.true put.Put-refused.ensures
 
 same-length-2 : tie.Need-same-length-2
 same-length-2 c = search rules
@@ -34,7 +34,7 @@ same-length-2 c = search rules
 returns-2 : tie.Need-returns-2
 returns-2 c =
     let r = c.before.before.before.before in
-    lines-written r.listing.ensures (entry r).requires c.if1.false
+    lines_written r.listing.ensures (entry r).requires c.if1.false
 
 pub put-listing-spec : {M : Type 1} → statement M
 put-listing-spec =

@@ -6,9 +6,9 @@ use mathlib.Core.Path.{◌≡◌, sym, ap, ap₂, ◌∙◌}
 use lib.Dec.{eqb, leb}
 use lib.ListN.{length}
 use lib.Seq.{length-take-le}
-use Rattle.ladder.specs.Listing.{planText}
+use Rattle.ladder.specs.Listing.{plan_text}
 use Rattle.ladder.specs.Refusals.{◌then◌, unless}
-use Rattle.listing.proofs.Answered.{answered-refused, answered, body-room, lent-plan, body-listable}
+use Rattle.listing.proofs.Answered.{answered_refused, answered, body_room, lent_plan, body_listable}
 use borrow.Author.Rules.{rules}
 use Rattle.listing.proofs.call.listing.Statement.{statement}
 use Rattle.listing.proofs.call.listing.Tie as tie
@@ -48,14 +48,14 @@ first-requires-2 : tie.Need-first-requires-2
 first-requires-2 c κs = search rules
 
 returns : tie.Need-returns
-returns c = let j = c.before in answered-refused _ _ (opened j).unpack.ensures (judged j) c.if1.true
+returns c = let j = c.before in answered_refused _ _ (opened j).unpack.ensures (judged j) c.if1.true
 
 body-requires : tie.Need-body-requires
 body-requires c κs = search rules
 
 -- The start order lies within the body.
 room : (c : tie.After-body) → (opened (clear c).before).unpack.result.d ≤ length c.body.result.now
-room c = let j = (clear c).before in body-room _ (entry j).args.text.now (opened j).unpack.ensures (judged j) (clear c).if1.false c.body.ensures
+room c = let j = (clear c).before in body_room _ (entry j).args.text.now (opened j).unpack.ensures (judged j) (clear c).if1.false c.body.ensures
 
 slice-aggregate-put-plan : tie.Need-slice-aggregate-put-plan
 slice-aggregate-put-plan c = sym (length-take-le _ _ (room c.before))
@@ -73,7 +73,7 @@ put-plan-requires : tie.Need-put-plan-requires
 put-plan-requires c κs =
     let b = c.before.before.before in
     let j = (clear b).before in
-    body-listable _ _ (opened j).unpack.ensures (judged j) (clear b).if1.false b.body.ensures
+    body_listable _ _ (opened j).unpack.ensures (judged j) (clear b).if1.false b.body.ensures
 
 same_length : tie.Need-same-length
 same_length c = search rules
@@ -85,7 +85,7 @@ returns-2 c =
     let j = (clear b).before in
     let unpacked = (opened j).unpack.ensures in
     let none = (clear b).if1.false in
-    answered _ _ unpacked (judged j) none (ap planText (lent-plan _ (entry j).args.text.now unpacked (judged j) none b.body.ensures)) put.put-plan.ensures
+    answered _ _ unpacked (judged j) none (ap plan_text (lent_plan _ (entry j).args.text.now unpacked (judged j) none b.body.ensures)) put.put-plan.ensures
 
 pub listing-spec : {M : Type 1} → statement M
 listing-spec =

@@ -1,5 +1,5 @@
--- `plain_accepted` meets its contract: a run that is not refused can be made (`startable`, `plain-steps-ask`), and its registers are the
--- rows' combinations (`plain-ran`).
+-- `plain_accepted` meets its contract: a run that is not refused can be made (`startable`, `plain_steps_ask`), and its registers are the
+-- rows' combinations (`plain_ran`).
 -- Assumes nothing.
 use Prim.Native.Nat.{ℕ, ◌+◌, ◌^◌, ◌≤◌, ◌<◌}
 use mathlib.Core.Path.{◌≡◌, sym, ap, subst, ◌∙◌}
@@ -10,12 +10,12 @@ use borrow.Author.Rules.{rules}
 use lib.ListN.{length, get_or, take}
 use lib.Seq.{length-take-le}
 use Rattle.ladder.specs.Numbers.{bits_at}
-use Rattle.ladder.specs.Plan.{Plan, planLent, lastMatrix}
-use Rattle.ladder.specs.Registers.{combination, plainRule, registersAfter}
+use Rattle.ladder.specs.Plan.{Plan, plan_lent, last_matrix}
+use Rattle.ladder.specs.Registers.{combination, plain_rule, registers_after}
 use Rattle.ladder.proofs.Operations.{RunOk, run_none}
-use Rattle.registers.proofs.Ran.{startable, room, run-left}
+use Rattle.registers.proofs.Ran.{startable, room, run_left}
 use Rattle.plain.specs.Inner.{PlainSteps}
-use Rattle.plain.proofs.Ran.{plain-steps-ask, plain-ran}
+use Rattle.plain.proofs.Ran.{plain_steps_ask, plain_ran}
 use Rattle.plain.proofs.accepted.plain_accepted.Statement.{statement}
 use Rattle.plain.proofs.accepted.plain_accepted.Tie as tie
 
@@ -37,7 +37,7 @@ ended c = c.plain-steps.new.1.1.1.1.0
 
 -- The plan that is lent.
 abbrev lent : tie.Start → Plan
-lent s = let a = s.args in planLent a.d a.l a.start.now a.bits.now a.row
+lent s = let a = s.args in plan_lent a.d a.l a.start.now a.bits.now a.row
 
 -- It is accepted, every buffer has its length, and the elements are elements ..
 ok : (s : tie.Start) → RunOk (lent s) s.args.m s.args.elements.now s.args.registers.now
@@ -51,16 +51,16 @@ start-registers-requires : tie.Need-start-registers-requires
 start-registers-requires c κs = startable (ok (known c)) (words c)
 
 -- The start registers: nine, of which d + 1 are used.
-nine : (c : tie.After-start-registers) → length c.start-registers.result ≡ 9
-nine c = search (c.start-registers.type-inv, rules)
+nine : (c : tie.After-start-registers) → length c.start_registers.result ≡ 9
+nine c = search (c.start_registers.type-inv, rules)
 
 small : (c : tie.After-start-registers) → (entry c).args.d + 1 ≤ 9
-small c = omega (arith, (ok (entry c)).plan.plan.dHigh)
+small c = omega (arith, (ok (entry c)).plan.plan.d_high)
 
 -- There are as many in the caller's words.
-as_many : (c : tie.After-start-registers) → length (take ((entry c).args.d + 1) c.start-registers.result) ≡ length (entry c).args.registers.now
+as_many : (c : tie.After-start-registers) → length (take ((entry c).args.d + 1) c.start_registers.result) ≡ length (entry c).args.registers.now
 as_many c =
-    length-take-le _ c.start-registers.result (omega (arith, small c, nine c))
+    length-take-le _ c.start_registers.result (omega (arith, small c, nine c))
     ∙ sym ((room (ok (entry c)) (words c.before)).0 ∙ sym (add-one _))
 
 add-n : tie.Need-overflow-add-n
@@ -86,20 +86,20 @@ plain-steps-requires c κs =
     let f = begun (stored c) in
     let a = (entry f).args in (
       subst (PlainSteps a.m a.d a.l a.bits.now) (sym (stored c).store.ensures)
-          (plain-steps-ask (ok (entry f)) (words f.before) f.start-registers.result f.start-registers.ensures (nine f)),
+          (plain_steps_ask (ok (entry f)) (words f.before) f.start_registers.result f.start_registers.ensures (nine f)),
       length-take-le _ _ (small f) ∙ add-one _,
     )
 
 -- What the steps leave.
 left : (c : tie.After-plain-steps)
     → let s = entry (begun (stored c.before)) in
-    ended c ≡ map (combination s.args.m s.args.elements.now) (lastMatrix (lent s))
+    ended c ≡ map (combination s.args.m s.args.elements.now) (last_matrix (lent s))
 left c =
     let f = begun (stored c.before) in
     let a = (entry f).args in
-    plain-ran (ok (entry f)) (words f.before) f.start-registers.result f.start-registers.ensures (nine f) _
+    plain_ran (ok (entry f)) (words f.before) f.start_registers.result f.start_registers.ensures (nine f) _
     (λ S. c.plain-steps.ensures S
-    ∙ ap (λ r. registersAfter (plainRule a.m) a.d S (bits_at a.d a.bits.now) r a.l) (stored c.before).store.ensures)
+    ∙ ap (λ r. registers_after (plain_rule a.m) a.d S (bits_at a.d a.bits.now) r a.l) (stored c.before).store.ensures)
 
 finish-requires : tie.Need-finish-requires
 finish-requires c κs =
@@ -107,7 +107,7 @@ finish-requires c κs =
     let f = begun (stored p.before) in
     let o = (ok (entry f)).plan.plan in
     let held = ap length (stored p.before).store.ensures ∙ as_many f ∙ (room (ok (entry f)) (words f.before)).0 in
-    (o.dHigh, (o.lHigh, (o.answerLow, (omega (arith, o.answerHigh), omega (arith, p.plain-steps.auto, held)))))
+    (o.d_high, (o.l_high, (o.answer_low, (omega (arith, o.answer_high), omega (arith, p.plain-steps.auto, held)))))
 
 same_length : tie.Need-same-length
 same_length c = search rules
@@ -115,7 +115,7 @@ same_length c = search rules
 returns : tie.Need-returns
 returns c =
     let p = c.before.before.before.before.before in
-    run-left (lent (entry (begun (stored p.before)))) _ _ _ (left p) c.finish.ensures
+    run_left (lent (entry (begun (stored p.before)))) _ _ _ (left p) c.finish.ensures
 
 pub plain-accepted-spec : {M : Type 1} → statement M
 plain-accepted-spec =

@@ -7,7 +7,7 @@ use native.Mathlib.Omega.{arith}
 use borrow.Author.Rules.{rules}
 use lib.ListN.{length, get_or}
 use Rattle.ladder.specs.Registers.{modulus}
-use Rattle.plain.proofs.Stepping.{Summing, doubled-room, summing_start, summing-room, summing-next, summing-end}
+use Rattle.plain.proofs.Stepping.{Summing, doubled_room, summing_start, summing_room, summing_next, summing_end}
 use Rattle.plain.proofs.steps.plain_step.Statement.{statement}
 use Rattle.plain.proofs.steps.plain_step.Tie as tie
 
@@ -31,8 +31,8 @@ first : (c : tie.After-ones-in invariant-loop decreases-loop)
     × (get_or (entry c).args.old.now c.ones_in_lem.result 0 < modulus (entry c).args.m)
 first c =
     let s = entry c in
-    let row = doubled-room s.pre.0 s.args.r _ c.ones_in_lem.ensures in
-    (omega (arith, row.0, s.pre.0.rows), omega (arith, row.0, s.pre.0.dHigh), row.1)
+    let row = doubled_room s.pre.0 s.args.r _ c.ones_in_lem.ensures in
+    (omega (arith, row.0, s.pre.0.rows), omega (arith, row.0, s.pre.0.d_high), row.1)
 
 -- What the bit takes from x is there, and row y is at most row d.
 room : (c : tie.After-bit invariant-loop decreases-loop)
@@ -43,11 +43,11 @@ room : (c : tie.After-bit invariant-loop decreases-loop)
 room c =
     let l = c.before.before in
     let s = entered l in
-    let inside = summing-room s.pre.0 s.args.r l.loop.invariant c.before.loop-test.true in
-    (omega (arith, c.bit.ensures), omega (arith, c.bit.ensures), s.pre.0.dHigh, s.pre.0.rows)
+    let inside = summing_room s.pre.0 s.args.r l.loop.invariant c.before.loop-test.true in
+    (omega (arith, c.bit.ensures), omega (arith, c.bit.ensures), s.pre.0.d_high, s.pre.0.rows)
 
 ones-in-requires : tie.Need-ones-in-requires invariant-loop decreases-loop
-ones-in-requires c κs = c.before.before.requires.0.dHigh
+ones-in-requires c κs = c.before.before.requires.0.d_high
 
 mul-add : tie.Need-overflow-mul-add invariant-loop decreases-loop
 mul-add c = omega (arith, first c)
@@ -65,7 +65,7 @@ add-requires : tie.Need-add-requires invariant-loop decreases-loop
 add-requires c κs =
     let o = c.before.before in
     let register = (first o).2 in
-    ((entry o).requires.0.mHigh, (register, register))
+    ((entry o).requires.0.m_high, (register, register))
 
 slice-write-new : tie.Need-slice-write-new invariant-loop decreases-loop
 slice-write-new c = omega (arith, (entry c.before.before.before).pre.1)
@@ -77,7 +77,7 @@ loop-holds c =
     summing_start s.pre.0 s.args.r s.args.new.now s.pre.1 _ o.ones_in_lem.ensures c.add.result c.add.ensures
 
 bit-requires : tie.Need-bit-requires invariant-loop decreases-loop
-bit-requires c κs = (c.loop-test.true, (entered c.before).pre.0.dHigh)
+bit-requires c κs = (c.loop-test.true, (entered c.before).pre.0.d_high)
 
 sub-x : tie.Need-overflow-sub-x invariant-loop decreases-loop
 sub-x c = omega (arith, room c)
@@ -104,7 +104,7 @@ add-requires-2 : tie.Need-add-requires-2 invariant-loop decreases-loop
 add-requires-2 c κs =
     let b = c.before.before in
     let p = (entered b.before.before).pre.0 in
-    (p.mHigh, (p.below _ (omega (arith, room b)), p.below _ (omega (arith, room b))))
+    (p.m_high, (p.below _ (omega (arith, room b)), p.below _ (omega (arith, room b))))
 
 mul-new : tie.Need-overflow-mul-new invariant-loop decreases-loop
 mul-new c = omega (arith, room c.before.before.before)
@@ -122,7 +122,7 @@ loop-again c =
     let b = c.before.before.before in
     let l = b.before.before in
     let s = entered l in
-    summing-next s.pre.0 s.args.r l.loop.invariant b.before.loop-test.true _ (omega (arith, room b, b.bit.ensures))
+    summing_next s.pre.0 s.args.r l.loop.invariant b.before.loop-test.true _ (omega (arith, room b, b.bit.ensures))
     c.add2.result c.add2.ensures
 
 same_length : tie.Need-same-length invariant-loop decreases-loop
@@ -131,7 +131,7 @@ same_length c = c.before.loop.invariant.rows ∙ sym (entered c.before).pre.1
 returns : tie.Need-returns invariant-loop decreases-loop
 returns c =
     let s = entered c.before in
-    summing-end s.pre.0 s.args.r c.before.loop.invariant (search rules)
+    summing_end s.pre.0 s.args.r c.before.loop.invariant (search rules)
 
 pub plain-step-spec : {M : Type 1} → statement M
 plain-step-spec =

@@ -5,8 +5,8 @@ use mathlib.Core.Path.{◌≡◌, sym, ap, subst, ◌∙◌}
 use mathlib.Core.List.{List}
 use native.Mathlib.Omega.{arith}
 use lib.ListN.{length}
-use Rattle.ladder.proofs.Bits.{bits-room}
-use Rattle.plain.proofs.Stepping.{PlainRunning, running-start, running-next, running-end}
+use Rattle.ladder.proofs.Bits.{bits_room}
+use Rattle.plain.proofs.Stepping.{PlainRunning, running_start, running_next, running_end}
 use Rattle.plain.proofs.steps.plain_steps.Statement.{statement}
 use Rattle.plain.proofs.steps.plain_steps.Tie as tie
 
@@ -42,11 +42,11 @@ there : (e : tie.Start invariant-loop decreases-loop) (s : ℕ) → s < e.args.l
     → (e.args.d ≤ 8) × ((s < 576) × (s * e.args.d + e.args.d ≤ 8 * length e.args.bits.now))
 there e s h =
     let asks = e.requires.0 in
-    (asks.step.dHigh, (omega (arith, asks.lHigh), bits-room e.args.d e.args.l s _ h asks.bits))
+    (asks.step.d_high, (omega (arith, asks.l_high), bits_room e.args.d e.args.l s _ h asks.bits))
 
 -- Fewer steps are made than a word counts.
 few : (l : tie.At-loop invariant-loop decreases-loop) → l.loop.s ≤ 576
-few l = omega (arith, l.loop.invariant.0.within, (entry l).requires.0.lHigh)
+few l = omega (arith, l.loop.invariant.0.within, (entry l).requires.0.l_high)
 
 -- After the first step of a pair, in the other words ..
 half : (c : tie.After-plain-step invariant-loop decreases-loop)
@@ -54,7 +54,7 @@ half : (c : tie.After-plain-step invariant-loop decreases-loop)
     Running l c.plain_step.new.1.1.1.1.0 (l.loop.s + 1)
 half c =
     let bits = c.before.before.before.step-bits in
-    running-next (turn c).before.loop.invariant.0 (omega (arith, (turn c).loop-test.true)) bits.result bits.ensures _ c.plain_step.ensures
+    running_next (turn c).before.loop.invariant.0 (omega (arith, (turn c).loop-test.true)) bits.result bits.ensures _ c.plain_step.ensures
 
 -- .. and after the second.
 both : (c : tie.After-plain-step2 invariant-loop decreases-loop)
@@ -62,10 +62,10 @@ both : (c : tie.After-plain-step2 invariant-loop decreases-loop)
     Running l c.plain-step2.new.1.1.1.1.0 (l.loop.s + 1 + 1)
 both c =
     let bits = c.before.before.before.step-bits2 in
-    running-next (half (first c)) (turn (first c)).loop-test.taken bits.result bits.ensures _ c.plain-step2.ensures
+    running_next (half (first c)) (turn (first c)).loop-test.taken bits.result bits.ensures _ c.plain-step2.ensures
 
 loop-holds : tie.Need-loop-init invariant-loop decreases-loop
-loop-holds c = let p = c.before.before.before.requires in (running-start p.0, p.1)
+loop-holds c = let p = c.before.before.before.requires in (running_start p.0, p.1)
 
 add-loop : tie.Need-overflow-add-loop invariant-loop decreases-loop
 add-loop c = omega (arith, few c)
@@ -108,7 +108,7 @@ last : (c : tie.After-plain-step3 invariant-loop decreases-loop)
     Running l c.plain-step3.new.1.1.1.1.0 (l.loop.s + 1)
 last c =
     let s = c.before.before.before in
-    running-next (left c).before.loop.invariant.0 s.before.if1.true s.step-bits3.result s.step-bits3.ensures _ c.plain-step3.ensures
+    running_next (left c).before.loop.invariant.0 s.before.if1.true s.step-bits3.result s.step-bits3.ensures _ c.plain-step3.ensures
 
 step-bits-requires-3 : tie.Need-step-bits-requires-3 invariant-loop decreases-loop
 step-bits-requires-3 c κs = let l = c.before.before in there (entry l) l.loop.s c.if1.true
@@ -136,7 +136,7 @@ returns : tie.Need-returns invariant-loop decreases-loop
 returns c S =
     let e = c.before.before in
     let p = single e in
-    e.store.ensures ∙ running-end (last p) (left p).loop-test.left S
+    e.store.ensures ∙ running_end (last p) (left p).loop-test.left S
 
 same-length-3 : tie.Need-same-length-3 invariant-loop decreases-loop
 same-length-3 c = let l = c.before.before in l.loop.invariant.0.step.rows ∙ sym (entry l).requires.0.step.rows
@@ -145,7 +145,7 @@ same-length-4 : tie.Need-same-length-4 invariant-loop decreases-loop
 same-length-4 c = let l = c.before.before in l.loop.invariant.1 ∙ sym (entry l).requires.1
 
 returns-2 : tie.Need-returns-2 invariant-loop decreases-loop
-returns-2 c S = running-end c.before.before.loop.invariant.0 c.if1.false S
+returns-2 c S = running_end c.before.before.loop.invariant.0 c.if1.false S
 
 pub plain-steps-spec : {M : Type 1} → statement M
 plain-steps-spec =

@@ -47,7 +47,7 @@ copy-requires : tie.Need-copy-requires
 copy-requires c κs =
     let p = (entry c.before).requires in
     let s = sizes p in
-    omega (arith, p.startLong)
+    omega (arith, p.start_long)
 
 copy-requires-2 : tie.Need-copy-requires-2
 copy-requires-2 c κs =

@@ -5,7 +5,7 @@ use mathlib.Core.Path.{refl}
 use native.Mathlib.Nat.{add-zero, add_assoc}
 use native.Mathlib.Omega.{arith}
 use lib.ListN.{length}
-use Rattle.ladder.specs.PlanFile.{trailerByte, dIn, lIn, answer_in, distanceIn, trailerSize}
+use Rattle.ladder.specs.PlanFile.{trailer_byte, d_in, l_in, answer_in, distance_in, trailer_size}
 use borrow.Author.Rules.{rules}
 use Rattle.planfile.proofs.trailer.fields.Statement.{statement}
 use Rattle.planfile.proofs.trailer.fields.Tie as tie
@@ -15,7 +15,7 @@ abbrev entry : tie.After-wide → tie.Start
 entry c = c.before.before.before
 
 twelve : (s : tie.Start) → 12 ≤ length s.args.file.now
-unfolding trailerSize
+unfolding trailer_size
 twelve s = s.requires
 
 sub_at : tie.Need-overflow-sub-at
@@ -61,7 +61,7 @@ add-t17 : tie.Need-overflow-add-t17
 add-t17 c = search rules
 
 returns : tie.Need-returns
-unfolding dIn answer_in lIn distanceIn trailerByte trailerSize
+unfolding d_in answer_in l_in distance_in trailer_byte trailer_size
 returns c =
     let far = c.before in
     let steps = far.before in
@@ -69,9 +69,9 @@ returns c =
     let d = row.before.before in (
       refl,
       record {
-        d-is = rw add-zero d.wide.ensures.0;
+        d_is = rw add-zero d.wide.ensures.0;
         row_is = row.wide2.ensures.0;
-        l-is = simp add_assoc at steps.two_bytes.ensures.0;
+        l_is = simp add_assoc at steps.two_bytes.ensures.0;
         distance_is = omega (arith, simp add_assoc at far.two-bytes2.ensures.0, simp add_assoc at c.two-bytes3.ensures.0);
       },
     )

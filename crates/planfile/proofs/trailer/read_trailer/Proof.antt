@@ -4,27 +4,27 @@ use mathlib.Core.Path.{sym, ap₂, ◌∙◌}
 use mathlib.Core.Bool.{◌&&◌}
 use native.Mathlib.Omega.{arith}
 use borrow.Author.Tests.{le-leb, lt-leb, not-true, not-false}
-use Rattle.ladder.specs.PlanFile.{trailerSize}
-use Rattle.refuse.proofs.Laws.{unless-yes, unless-no, both_true, first-false}
+use Rattle.ladder.specs.PlanFile.{trailer_size}
+use Rattle.refuse.proofs.Laws.{unless_yes, unless_no, both_true, first_false}
 use borrow.Author.Rules.{rules}
 use Rattle.planfile.proofs.trailer.read_trailer.Statement.{statement}
 use Rattle.planfile.proofs.trailer.read_trailer.Tie as tie
 
 returns : tie.Need-returns
 returns c = record {
-  refusal = sym (unless-no _ _ (first-false _ _ (lt-leb _ _ c.if1.true)));
+  refusal = sym (unless_no _ _ (first_false _ _ (lt-leb _ _ c.if1.true)));
   fields = λ e. absurd (omega arith);
 }
 
 marked-requires : tie.Need-marked-requires
-unfolding trailerSize
+unfolding trailer_size
 marked-requires c κs = search rules
 
 returns-2 : tie.Need-returns-2
 returns-2 c =
     let m = c.before in
     record {
-      refusal = sym (unless-no _ _ (ap₂ ◌&&◌ (le-leb _ _ m.before.if1.false) (sym m.marked.ensures ∙ not-true _ c.if2.true)));
+      refusal = sym (unless_no _ _ (ap₂ ◌&&◌ (le-leb _ _ m.before.if1.false) (sym m.marked.ensures ∙ not-true _ c.if2.true)));
       fields = λ e. absurd (omega arith);
     }
 
@@ -38,7 +38,7 @@ returns-3 c =
     record {
       refusal =
           c.fields.ensures.0
-          ∙ sym (unless-yes _ _ (both_true _ _ (le-leb _ _ m.before.if1.false) (sym m.marked.ensures ∙ not-false _ e.if2.false)));
+          ∙ sym (unless_yes _ _ (both_true _ _ (le-leb _ _ m.before.if1.false) (sym m.marked.ensures ∙ not-false _ e.if2.false)));
       fields = λ z. c.fields.ensures.1;
     }
 

@@ -1,7 +1,7 @@
 -- `trailer_of` meets its contract: the bytes are those of the definition.
 -- Assumes nothing.
 use mathlib.Core.Path.{refl}
-use Rattle.ladder.specs.PlanFile.{twoBytes, fourBytes, mark}
+use Rattle.ladder.specs.PlanFile.{two_bytes, four_bytes, mark}
 use borrow.Author.Rules.{rules}
 use Rattle.planfile.proofs.trailer.trailer_of.Statement.{statement}
 use Rattle.planfile.proofs.trailer.trailer_of.Tie as tie
@@ -37,7 +37,7 @@ array-read-t37 : tie.Need-array-read-t37
 array-read-t37 c = search rules
 
 returns : tie.Need-returns
-unfolding twoBytes fourBytes mark
+unfolding two_bytes four_bytes mark
 returns c = refl
 
 pub trailer-of-spec : {M : Type 1} → statement M

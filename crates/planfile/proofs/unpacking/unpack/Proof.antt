@@ -1,7 +1,7 @@
 -- `unpack` keeps its promise: what the trailer says where nothing is refused, else zeros.
 -- Assumes nothing.
 use mathlib.Core.Path.{sym, ◌∙◌}
-use Rattle.ladder.proofs.Tests.{refusing-no, refusing-yes}
+use Rattle.ladder.proofs.Tests.{refusing_no, refusing_yes}
 use borrow.Author.Rules.{rules}
 use Rattle.planfile.proofs.unpacking.unpack.Statement.{statement}
 use Rattle.planfile.proofs.unpacking.unpack.Tie as tie
@@ -12,9 +12,9 @@ judged-requires c κs = search rules
 returns : tie.Need-returns
 returns c = record {
   refusal_is = c.before.judged.ensures.refusal;
-  d-is = sym (refusing-yes _ _ _ c.if1.true);
-  l-is = sym (refusing-yes _ _ _ c.if1.true);
-  row_is = sym (refusing-yes _ _ _ c.if1.true);
+  d_is = sym (refusing_yes _ _ _ c.if1.true);
+  l_is = sym (refusing_yes _ _ _ c.if1.true);
+  row_is = sym (refusing_yes _ _ _ c.if1.true);
 }
 
 returns-2 : tie.Need-returns-2
@@ -23,9 +23,9 @@ returns-2 c =
     let f = j.fields c.if1.false in
     record {
       refusal_is = j.refusal;
-      d-is = f.d-is ∙ sym (refusing-no _ _ _ c.if1.false);
-      l-is = f.l-is ∙ sym (refusing-no _ _ _ c.if1.false);
-      row_is = f.row_is ∙ sym (refusing-no _ _ _ c.if1.false);
+      d_is = f.d_is ∙ sym (refusing_no _ _ _ c.if1.false);
+      l_is = f.l_is ∙ sym (refusing_no _ _ _ c.if1.false);
+      row_is = f.row_is ∙ sym (refusing_no _ _ _ c.if1.false);
     }
 
 pub unpack-spec : {M : Type 1} → statement M

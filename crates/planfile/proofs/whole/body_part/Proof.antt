@@ -5,7 +5,7 @@ use mathlib.Core.Path.{◌≡◌, refl, ap}
 use native.Mathlib.Nat.{add_comm}
 use native.Mathlib.Omega.{arith}
 use lib.ListN.{length, take, drop}
-use Rattle.planfile.specs.Inner.{placeTold, bodyTold}
+use Rattle.planfile.specs.Inner.{place_told, body_told}
 use borrow.Author.Rules.{rules}
 use Rattle.planfile.proofs.whole.body_part.Statement.{statement}
 use Rattle.planfile.proofs.whole.body_part.Tie as tie
@@ -26,15 +26,15 @@ part-result-end : tie.Need-slice-bounds-result-end
 part-result-end c = search rules
 
 returns : tie.Need-returns
-unfolding placeTold bodyTold
+unfolding place_told body_told
 returns c =
     let a = c.before.args in
     let to = length a.file.now - a.size in
     let long : to - (to - a.t.distance) ≡ a.t.distance = omega arith in
     record {
-      block-is = refl;
-      offset-is = add_comm _ _;
-      bytes-are = ap (λ n. take n (drop (to - a.t.distance) a.file.now)) long;
+      block_is = refl;
+      offset_is = add_comm _ _;
+      bytes_are = ap (λ n. take n (drop (to - a.t.distance) a.file.now)) long;
     }
 
 pub body-part-spec : {M : Type 1} → statement M

@@ -6,7 +6,7 @@ use lib.Dec.{ltb}
 use lib.ListN.{length, get_or, drop}
 use native.Mathlib.Omega.{arith}
 use borrow.Author.Tests.{lt-ltb, le-ltb}
-use Rattle.refuse.proofs.Laws.{all-fails, all-goes, all-ends}
+use Rattle.refuse.proofs.Laws.{all_fails, all_goes, all_ends}
 use Rattle.ladder.specs.Lists.{all}
 use borrow.Author.Rules.{rules}
 use Rattle.refuse.proofs.elements.all_below.Statement.{statement}
@@ -30,7 +30,7 @@ shared-slice-read-if1 c = search rules
 returns : tie.Need-returns invariant-loop decreases-loop
 returns c =
     let b = c.before.before.before in
-    all-fails (λ e. ltb e b.before.args.m) b.before.args.s.now b.loop.i (omega arith)
+    all_fails (λ e. ltb e b.before.args.m) b.before.args.s.now b.loop.i (omega arith)
     (le-ltb _ _ c.if1.true) b.loop.invariant.1
 
 add-i : tie.Need-overflow-add-i invariant-loop decreases-loop
@@ -43,14 +43,14 @@ loop-again : tie.Need-loop-preserved invariant-loop decreases-loop
 loop-again c =
     let b = c.before.before.before in (
       omega arith,
-      all-goes (λ e. ltb e b.before.args.m) b.before.args.s.now b.loop.i (omega arith)
+      all_goes (λ e. ltb e b.before.args.m) b.before.args.s.now b.loop.i (omega arith)
           (lt-ltb (get_or b.before.args.s.now b.loop.i 0) b.before.args.m (omega (arith, c.if1.false))) b.loop.invariant.1,
     )
 
 returns-2 : tie.Need-returns-2 invariant-loop decreases-loop
 returns-2 c =
     let b = c.before in
-    all-ends (λ e. ltb e b.before.args.m) b.before.args.s.now b.loop.i (omega arith) b.loop.invariant.1
+    all_ends (λ e. ltb e b.before.args.m) b.before.args.s.now b.loop.i (omega arith) b.loop.invariant.1
 
 pub all-below-spec : {M : Type 1} → statement M
 all-below-spec =

@@ -3,21 +3,21 @@
 use native.Mathlib.Nat.{mul-le-mul}
 use Prim.Native.Nat.{◌+◌, ◌/◌, ◌≤◌}
 use native.Mathlib.Omega.{arith}
-use Rattle.ladder.specs.Numbers.{scalarsLength, scalarWords}
+use Rattle.ladder.specs.Numbers.{scalars_length, scalar_words}
 use borrow.Author.Rules.{rules}
 use Rattle.refuse.proofs.lengths.scalars_length.Statement.{statement}
 use Rattle.refuse.proofs.lengths.scalars_length.Tie as tie
 
 add-result : tie.Need-overflow-add-result
-add-result c = omega (arith, c.requires.lHigh)
+add-result c = omega (arith, c.requires.l_high)
 
 mul-result : tie.Need-overflow-mul-result
 mul-result c =
-    let w : (c.args.l + 63) / 64 ≤ 9 = omega (arith, c.requires.lHigh) in
-    omega (arith, mul-le-mul c.requires.dHigh w)
+    let w : (c.args.l + 63) / 64 ≤ 9 = omega (arith, c.requires.l_high) in
+    omega (arith, mul-le-mul c.requires.d_high w)
 
 returns : tie.Need-returns
-unfolding scalarsLength scalarWords
+unfolding scalars_length scalar_words
 returns c = search rules
 
 pub scalars-length-spec : {M : Type 1} → statement M

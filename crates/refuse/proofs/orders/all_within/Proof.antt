@@ -5,7 +5,7 @@ use mathlib.Core.Path.{◌≡◌}
 use lib.ListN.{length, drop}
 use native.Mathlib.Omega.{arith}
 use borrow.Author.Tests.{not-true, not-false}
-use Rattle.refuse.proofs.Laws.{all-fails, all-goes, all-ends}
+use Rattle.refuse.proofs.Laws.{all_fails, all_goes, all_ends}
 use Rattle.ladder.specs.Lists.{all}
 use Rattle.ladder.specs.Refusals.{within}
 use borrow.Author.Rules.{rules}
@@ -33,7 +33,7 @@ within-requires c κs = search rules
 returns : tie.Need-returns invariant-loop decreases-loop
 returns c =
     let b = c.before.before.before.before.before in
-    all-fails (within 1 b.before.before.args.d) b.before.before.args.s.now b.loop.i (omega arith)
+    all_fails (within 1 b.before.before.args.d) b.before.before.args.s.now b.loop.i (omega arith)
     (let f = not-true c.before.within.result c.if1.true in cc) b.loop.invariant.1
 
 add-i : tie.Need-overflow-add-i invariant-loop decreases-loop
@@ -46,14 +46,14 @@ loop-again : tie.Need-loop-preserved invariant-loop decreases-loop
 loop-again c =
     let b = c.before.before.before.before.before in (
       omega arith,
-      all-goes (within 1 b.before.before.args.d) b.before.before.args.s.now b.loop.i (omega arith)
+      all_goes (within 1 b.before.before.args.d) b.before.before.args.s.now b.loop.i (omega arith)
           (let f = not-false c.before.within.result c.if1.false in cc) b.loop.invariant.1,
     )
 
 returns-2 : tie.Need-returns-2 invariant-loop decreases-loop
 returns-2 c =
     let b = c.before in
-    all-ends (within 1 b.before.before.args.d) b.before.before.args.s.now b.loop.i (omega arith) b.loop.invariant.1
+    all_ends (within 1 b.before.before.args.d) b.before.before.args.s.now b.loop.i (omega arith) b.loop.invariant.1
 
 pub all-within-spec : {M : Type 1} → statement M
 all-within-spec =

@@ -5,8 +5,8 @@ use mathlib.Core.Path.{◌≡◌}
 use lib.ListN.{length, get_or, drop}
 use native.Mathlib.Omega.{arith}
 use mathlib.Core.Logic.{⊎_elim}
-use Rattle.ladder.proofs.Lists.{same-is}
-use Rattle.refuse.proofs.Laws.{count-more, count_none}
+use Rattle.ladder.proofs.Lists.{same_is}
+use Rattle.refuse.proofs.Laws.{count_more, count_none}
 use Rattle.ladder.specs.Lists.{count}
 use borrow.Author.Rules.{rules}
 use Rattle.refuse.proofs.orders.count.Statement.{statement}
@@ -39,9 +39,9 @@ loop-less c = search rules
 loop-again : tie.Need-loop-preserved invariant-loop decreases-loop
 loop-again c =
     let b = c.before.before.before.before in
-    let more = count-more b.before.before.args.v b.before.before.args.s.now b.loop.i (omega arith) in
+    let more = count_more b.before.before.args.v b.before.before.args.s.now b.loop.i (omega arith) in
     let x = get_or b.before.before.args.s.now b.loop.i 0 in
-    let hit = same-is x b.before.before.args.v in
+    let hit = same_is x b.before.before.args.v in
     ⊎_elim (λ w. omega arith) (λ w. omega arith) c.if1.branch
 
 returns : tie.Need-returns invariant-loop decreases-loop

@@ -2,7 +2,7 @@
 -- Assumes nothing.
 use mathlib.Core.Path.{sym, ◌∙◌}
 use Rattle.ladder.specs.Refusals.{order}
-use Rattle.refuse.proofs.Laws.{unless-yes, unless-no}
+use Rattle.refuse.proofs.Laws.{unless_yes, unless_no}
 use borrow.Author.Rules.{rules}
 use Rattle.refuse.proofs.table.order.Statement.{statement}
 use Rattle.refuse.proofs.table.order.Tie as tie
@@ -12,11 +12,11 @@ arrangement-requires c κs = search rules
 
 returns : tie.Need-returns
 unfolding order
-returns c = sym (unless-yes _ _ (sym c.before.arrangement.ensures ∙ c.if1.true))
+returns c = sym (unless_yes _ _ (sym c.before.arrangement.ensures ∙ c.if1.true))
 
 returns-2 : tie.Need-returns-2
 unfolding order
-returns-2 c = sym (unless-no _ _ (sym c.before.arrangement.ensures ∙ c.if1.false))
+returns-2 c = sym (unless_no _ _ (sym c.before.arrangement.ensures ∙ c.if1.false))
 
 pub order-spec : {M : Type 1} → statement M
 order-spec = tie.close (tie.spec arrangement-requires returns returns-2)

@@ -1,7 +1,7 @@
--- `finish` meets its contract: the counts are small (`bits-bound`).
+-- `finish` meets its contract: the counts are small (`bits_bound`).
 -- Assumes nothing.
 use Rattle.std.proofs.Common.{arith, rules}
-use Rattle.ladder.proofs.Bits.{bits-bound}
+use Rattle.ladder.proofs.Bits.{bits_bound}
 use Rattle.registers.proofs.answer.finish.Statement.{statement}
 use Rattle.registers.proofs.answer.finish.Tie as tie
 
@@ -17,7 +17,7 @@ shared-slice-read-t6 c = search rules
 mul-t9 : tie.Need-overflow-mul-t9
 mul-t9 c =
     let s = c.before in
-    omega (arith, bits-bound s.args.d s.args.l s.requires.0 s.requires.1.0)
+    omega (arith, bits_bound s.args.d s.args.l s.requires.0 s.requires.1.0)
 
 returns : tie.Need-returns
 returns c = search rules

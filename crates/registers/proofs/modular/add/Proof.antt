@@ -1,7 +1,7 @@
--- `add` meets its contract: the highest bit of the wrapped difference says whether the modulus comes back (`sum-reduced`).
+-- `add` meets its contract: the highest bit of the wrapped difference says whether the modulus comes back (`sum_reduced`).
 -- Assumes nothing.
 use Rattle.std.proofs.Common.{◌∙◌, arith, rules}
-use Rattle.registers.proofs.ByModulus.{back_fits, sum-reduced}
+use Rattle.registers.proofs.ByModulus.{back_fits, sum_reduced}
 use Rattle.registers.proofs.modular.add.Statement.{statement}
 use Rattle.registers.proofs.modular.add.Tie as tie
 
@@ -23,7 +23,7 @@ returns : tie.Need-returns
 returns c =
     let s = c.before.before.before in
     let t = c.before.wrapping-sub-u64 in
-    sum-reduced s.args.m s.args.a s.args.b t.result _ s.requires.0 s.requires.1.0 s.requires.1.1 (omega arith)
+    sum_reduced s.args.m s.args.a s.args.b t.result _ s.requires.0 s.requires.1.0 s.requires.1.1 (omega arith)
     (t.ensures ∙ c.before.before.wrapping-add-u64.ensures) c.wrapping-add-u642.ensures
 
 pub add_spec : {M : Type 1} → statement M

@@ -1,9 +1,9 @@
--- `run_refusal` meets its contract: a loose plan's refusal, then that of the modulus and the elements (`run-early`, `run-late`).
+-- `run_refusal` meets its contract: a loose plan's refusal, then that of the modulus and the elements (`run_early`, `run_late`).
 -- Assumes nothing.
 use Rattle.std.proofs.Common.{◌∙◌, ap₂, rules}
-use Rattle.ladder.specs.Plan.{Plan, planLent}
+use Rattle.ladder.specs.Plan.{Plan, plan_lent}
 use Rattle.ladder.specs.Refusals.{◌then◌}
-use Rattle.registers.proofs.Judged.{run-early, run-late}
+use Rattle.registers.proofs.Judged.{run_early, run_late}
 use Rattle.registers.proofs.refusal.run_refusal.Statement.{statement}
 use Rattle.registers.proofs.refusal.run_refusal.Tie as tie
 
@@ -12,7 +12,7 @@ abbrev entry : tie.After-loose-refusal → tie.Start
 entry c = c.before.before.before.before.before
 
 abbrev lent : tie.After-loose-refusal → Plan
-lent c = let a = (entry c).args in planLent a.d a.l a.start.now a.bits.now a.row
+lent c = let a = (entry c).args in plan_lent a.d a.l a.start.now a.bits.now a.row
 
 loose-refusal-requires : tie.Need-loose-refusal-requires
 loose-refusal-requires c κs = search rules
@@ -21,7 +21,7 @@ returns : tie.Need-returns
 returns c =
     let j = c.before in
     let a = (entry j).args in
-    run-early (lent j) a.m a.elements.now a.registers.now j.loose-refusal.ensures c.if1.true
+    run_early (lent j) a.m a.elements.now a.registers.now j.loose-refusal.ensures c.if1.true
 
 too-large-requires : tie.Need-too-large-requires
 too-large-requires c κs = search rules
@@ -38,7 +38,7 @@ returns-2 c =
     let j = clear.before in
     let a = (entry j).args in
     c.first.ensures ∙ ap₂ ◌then◌ c.before.before.too_large.ensures c.before.element.ensures
-    ∙ run-late (lent j) a.m a.elements.now a.registers.now j.loose-refusal.ensures clear.if1.false
+    ∙ run_late (lent j) a.m a.elements.now a.registers.now j.loose-refusal.ensures clear.if1.false
 
 pub run-refusal-spec : {M : Type 1} → statement M
 run-refusal-spec =

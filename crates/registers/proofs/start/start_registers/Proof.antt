@@ -3,9 +3,9 @@
 -- Assumes nothing.
 use Rattle.std.proofs.Common.{suc, pred, ◌+◌, ◌-◌, ◌%◌, ◌<◌, map, length, get_or, take, sym, ap, ◌∙◌, arith, rules}
 use lib.ListN.{length-map}
-use Rattle.ladder.proofs.Tests.{order-at}
+use Rattle.ladder.proofs.Tests.{order_at}
 use Rattle.ladder.specs.Registers.{modulus}
-use Rattle.registers.proofs.Beginning.{Beginning, beginning-start, beginning-next, beginning-end}
+use Rattle.registers.proofs.Beginning.{Beginning, beginning_start, beginning_next, beginning_end}
 use Rattle.registers.proofs.start.start_registers.Statement.{statement}
 use Rattle.registers.proofs.start.start_registers.Tie as tie
 
@@ -24,11 +24,11 @@ inside : (c : tie.In-loop invariant-loop decreases-loop)
     → get_or (entered c.before).args.start.now c.before.loop.k 0 - 1 < length (entered c.before).args.elements.now
 inside c =
     let s = entered c.before in
-    let at = order-at _ s.pre.order c.before.loop.k c.loop-test.true in
+    let at = order_at _ s.pre.order c.before.loop.k c.loop-test.true in
     omega (arith, at, s.pre.long)
 
 loop-holds : tie.Need-loop-init invariant-loop decreases-loop
-loop-holds c = let a = c.before.before.args in beginning-start a.m a.elements.now (map pred a.start.now)
+loop-holds c = let a = c.before.before.args in beginning_start a.m a.elements.now (map pred a.start.now)
 
 shared-slice-read-j : tie.Need-shared-slice-read-j invariant-loop decreases-loop
 shared-slice-read-j c = search rules
@@ -37,12 +37,12 @@ cast-j : tie.Need-overflow-cast-j invariant-loop decreases-loop
 cast-j c =
     let l = c.before.before in
     let s = entered l in
-    omega (arith, order-at _ s.pre.order l.loop.k c.before.loop-test.true, s.pre.few)
+    omega (arith, order_at _ s.pre.order l.loop.k c.before.loop-test.true, s.pre.few)
 
 sub-j : tie.Need-overflow-sub-j invariant-loop decreases-loop
 sub-j c =
     let l = c.before.before in
-    (order-at _ (entered l).requires.order l.loop.k c.before.loop-test.true).0
+    (order_at _ (entered l).requires.order l.loop.k c.before.loop-test.true).0
 
 mul-add : tie.Need-overflow-mul-add invariant-loop decreases-loop
 mul-add c = search rules
@@ -60,7 +60,7 @@ add-requires : tie.Need-add-requires invariant-loop decreases-loop
 add-requires c κs =
     let l = c.before.before.before in
     let p = (entered l).requires in
-    (p.mHigh, (l.loop.invariant.below, p.below _ (inside c.before.before)))
+    (p.m_high, (l.loop.invariant.below, p.below _ (inside c.before.before)))
 
 add-k : tie.Need-overflow-add-k invariant-loop decreases-loop
 add-k c = search rules
@@ -80,8 +80,8 @@ loop-again c =
     let s = entered l in
     let a = s.args in
     let long = length-map a.start.now pred in
-    let place = (order-at _ s.pre.order l.loop.k c.before.before.before.loop-test.true).1 in
-    beginning-next a.m a.elements.now (map pred a.start.now) l.loop.invariant (omega (arith, long)) (omega (arith, long, s.pre.few)) _
+    let place = (order_at _ s.pre.order l.loop.k c.before.before.before.loop-test.true).1 in
+    beginning_next a.m a.elements.now (map pred a.start.now) l.loop.invariant (omega (arith, long)) (omega (arith, long, s.pre.few)) _
     (c.add.ensures ∙ ap (λ j. (get_or l.loop.regs l.loop.k 0 + get_or a.elements.now j 0) % modulus a.m) place)
 
 returns : tie.Need-returns invariant-loop decreases-loop
@@ -90,7 +90,7 @@ returns c =
     let a = s.args in
     let long = length-map a.start.now pred in
     ap (λ n. take (suc n) c.before.loop.regs) (sym long)
-    ∙ beginning-end a.m a.elements.now (map pred a.start.now) c.before.loop.invariant (omega (arith, long)) (omega (arith, long, s.pre.few))
+    ∙ beginning_end a.m a.elements.now (map pred a.start.now) c.before.loop.invariant (omega (arith, long)) (omega (arith, long, s.pre.few))
 
 pub start-registers-spec : {M : Type 1} → statement M
 start-registers-spec =

@@ -1,8 +1,8 @@
--- `bit` meets its contract. Rests on `own-bit`: bit i of a number stands in its word i / 64.
+-- `bit` meets its contract. Rests on `own_bit`: bit i of a number stands in its word i / 64.
 -- Assumes nothing.
 use native.Mathlib.Omega.{arith}
 use borrow.Author.Rules.{rules}
-use Rattle.scalars.proofs.Words.{own-bit}
+use Rattle.scalars.proofs.Words.{own_bit}
 use Rattle.scalars.proofs.lent.bit.Statement.{statement}
 use Rattle.scalars.proofs.lent.bit.Tie as tie
 
@@ -24,7 +24,7 @@ shr-result c = search rules
 returns : tie.Need-returns
 returns c =
     let a = c.before.args in
-    own-bit a.k a.scalars.now (λ i. omega (arith, c.shared-slice-known.given i)) a.j a.i c.before.requires.0
+    own_bit a.k a.scalars.now (λ i. omega (arith, c.shared-slice-known.given i)) a.j a.i c.before.requires.0
 
 pub bit-spec : {M : Type 1} → statement M
 bit-spec =

@@ -7,14 +7,14 @@ use native.Mathlib.Omega.{arith}
 use borrow.Author.Rules.{rules}
 use lib.ListN.{drop}
 use Rattle.ladder.specs.Lists.{odds}
-use Rattle.ladder.specs.Numbers.{numbersOf}
-use Rattle.scalars.proofs.Words.{words-within, word-within}
-use Rattle.scalars.proofs.Gathered.{odds-none, odds-small, odds-more}
+use Rattle.ladder.specs.Numbers.{numbers_of}
+use Rattle.scalars.proofs.Words.{words_within, word_within}
+use Rattle.scalars.proofs.Gathered.{odds_none, odds_small, odds_more}
 use Rattle.scalars.proofs.lent.odd_count.Statement.{statement}
 use Rattle.scalars.proofs.lent.odd_count.Tie as tie
 
 abbrev invariant-loop : tie.invariant-loop
-invariant-loop d l scalars k odd₀ j₀ odd j = (j ≤ d) × (odd ≡ odds (drop j (numbersOf d k scalars)))
+invariant-loop d l scalars k odd₀ j₀ odd j = (j ≤ d) × (odd ≡ odds (drop j (numbers_of d k scalars)))
 
 abbrev decreases-loop : tie.decreases-loop
 decreases-loop d l scalars k odd₀ j₀ odd j = j
@@ -25,7 +25,7 @@ scalar-words-requires c κs = search rules
 loop-holds : tie.Need-loop-init invariant-loop decreases-loop
 loop-holds c =
     let a = c.before.before.args in
-    (omega arith, odds-none a.d c.scalar-words.result a.scalars.now)
+    (omega arith, odds_none a.d c.scalar-words.result a.scalars.now)
 
 sub-j : tie.Need-overflow-sub-j invariant-loop decreases-loop
 sub-j c = search rules
@@ -33,8 +33,8 @@ sub-j c = search rules
 bit-requires : tie.Need-bit-requires invariant-loop decreases-loop
 bit-requires c κs =
     let a = c.before.before.before.before.args in (
-      word-within a.l _ 0 c.before.before.scalar-words.ensures (omega arith),
-      words-within a.d a.l a.scalars.now c.before.before.before.before.requires _ (c.before.loop.j - 1)
+      word_within a.l _ 0 c.before.before.scalar-words.ensures (omega arith),
+      words_within a.d a.l a.scalars.now c.before.before.before.before.requires _ (c.before.loop.j - 1)
           c.before.before.scalar-words.ensures (omega arith),
     )
 
@@ -44,7 +44,7 @@ add-odd c =
     omega (
       arith,
       c.bit.ensures,
-      odds-small a.d c.before.before.before.scalar-words.result a.scalars.now c.before.before.loop.j
+      odds_small a.d c.before.before.before.scalar-words.result a.scalars.now c.before.before.loop.j
           (omega arith),
     )
 
@@ -55,7 +55,7 @@ loop-again : tie.Need-loop-preserved invariant-loop decreases-loop
 loop-again c =
     let a = c.before.before.before.before.before.args in (
       omega arith,
-      odds-more a.d c.before.before.before.scalar-words.result a.scalars.now c.before.before.loop.j
+      odds_more a.d c.before.before.before.scalar-words.result a.scalars.now c.before.before.loop.j
           (omega arith) (omega arith) c.before.before.loop.odd c.bit.result c.before.before.loop.invariant.1 c.bit.ensures,
     )
 
@@ -64,7 +64,7 @@ returns c =
     let a = c.before.before.before.before.args in
     let done : c.before.loop.j ≡ 0 = omega arith in
     c.before.loop.invariant.1
-    ∙ ap₂ (λ j k. odds (drop j (numbersOf a.d k a.scalars.now))) done c.before.before.scalar-words.ensures
+    ∙ ap₂ (λ j k. odds (drop j (numbers_of a.d k a.scalars.now))) done c.before.before.scalar-words.ensures
 
 pub odd-count-spec : {M : Type 1} → statement M
 odd-count-spec =

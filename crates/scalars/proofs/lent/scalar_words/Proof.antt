@@ -1,8 +1,8 @@
--- `scalar_words` meets its contract. Rests on the definition of `scalarWords` alone.
+-- `scalar_words` meets its contract. Rests on the definition of `scalar_words` alone.
 -- Assumes nothing.
 use mathlib.Core.Path.{refl}
 use borrow.Author.Rules.{rules}
-use Rattle.ladder.specs.Numbers.{scalarWords}
+use Rattle.ladder.specs.Numbers.{scalar_words}
 use Rattle.scalars.proofs.lent.scalar_words.Statement.{statement}
 use Rattle.scalars.proofs.lent.scalar_words.Tie as tie
 
@@ -10,7 +10,7 @@ add-result : tie.Need-overflow-add-result
 add-result c = search rules
 
 returns : tie.Need-returns
-unfolding scalarWords
+unfolding scalar_words
 returns c = refl
 
 pub scalar-words-spec : {M : Type 1} → statement M

@@ -1,5 +1,5 @@
 -- `scalars_below` meets its contract. The loop's invariant: all scalars pass exactly if all from j on do. Rests on the top word
--- deciding (`below_fails`, `below-goes`).
+-- deciding (`below_fails`, `below_goes`).
 -- Assumes nothing.
 use Prim.Native.Nat.{◌≤◌, ◌+◌, ◌-◌, ◌*◌, ◌^◌}
 use mathlib.Core.Path.{◌≡◌, refl}
@@ -8,15 +8,15 @@ use borrow.Author.Rules.{rules}
 use lib.Dec.{ltb}
 use lib.ListN.{drop, length}
 use Rattle.ladder.specs.Lists.{all}
-use Rattle.ladder.specs.Numbers.{numbersOf, scalarWords}
-use Rattle.scalars.proofs.Words.{words-within, word-within}
-use Rattle.scalars.proofs.Below.{below_fails, below-goes, below-ends}
+use Rattle.ladder.specs.Numbers.{numbers_of, scalar_words}
+use Rattle.scalars.proofs.Words.{words_within, word_within}
+use Rattle.scalars.proofs.Below.{below_fails, below_goes, below_ends}
 use Rattle.scalars.proofs.lent.scalars_below.Statement.{statement}
 use Rattle.scalars.proofs.lent.scalars_below.Tie as tie
 
 abbrev invariant-loop : tie.invariant-loop
 invariant-loop d l scalars k j₀ j =
-    (j ≤ d) × (all (λ n. ltb n (2 ^ l)) (drop j (numbersOf d (scalarWords l) scalars)) ≡ all (λ n. ltb n (2 ^ l)) (numbersOf d (scalarWords l) scalars))
+    (j ≤ d) × (all (λ n. ltb n (2 ^ l)) (drop j (numbers_of d (scalar_words l) scalars)) ≡ all (λ n. ltb n (2 ^ l)) (numbers_of d (scalar_words l) scalars))
 
 abbrev decreases-loop : tie.decreases-loop
 decreases-loop d l scalars k j₀ j = d - j
@@ -33,11 +33,11 @@ inside : (c : tie.In-loop invariant-loop decreases-loop)
     ≤ length c.before.before.before.before.args.scalars.now
 inside c =
     let a = c.before.before.before.before.args in
-    words-within a.d a.l a.scalars.now c.before.before.before.before.requires _ c.before.loop.j
+    words_within a.d a.l a.scalars.now c.before.before.before.before.requires _ c.before.loop.j
     c.before.before.scalar-words.ensures (omega arith)
 
 some : (c : tie.In-loop invariant-loop decreases-loop) → 1 ≤ c.before.before.scalar-words.result
-some c = word-within c.before.before.before.before.args.l _ 0 c.before.before.scalar-words.ensures (omega arith)
+some c = word_within c.before.before.before.before.args.l _ 0 c.before.before.scalar-words.ensures (omega arith)
 
 mul-top : tie.Need-overflow-mul-top invariant-loop decreases-loop
 mul-top c = omega (arith, inside c)
@@ -78,7 +78,7 @@ loop-again : tie.Need-loop-preserved invariant-loop decreases-loop
 loop-again c =
     let a = c.before.before.before.before.before.before.args in (
       omega arith,
-      below-goes a.d a.l a.scalars.now (λ i. omega (arith, c.before.shared-slice-known2.given i)) c.before.before.before.loop.j
+      below_goes a.d a.l a.scalars.now (λ i. omega (arith, c.before.shared-slice-known2.given i)) c.before.before.before.loop.j
           c.before.before.before.before.before.before.requires (omega arith)
           (rw c.before.before.before.before.scalar-words.ensures at c.if1.false)
           c.before.before.before.loop.invariant.1,
@@ -87,7 +87,7 @@ loop-again c =
 returns-2 : tie.Need-returns-2 invariant-loop decreases-loop
 returns-2 c =
     let a = c.before.before.before.before.args in
-    below-ends a.d a.l a.scalars.now c.before.loop.j (omega arith) c.before.loop.invariant.1
+    below_ends a.d a.l a.scalars.now c.before.loop.j (omega arith) c.before.loop.invariant.1
 
 pub scalars-below-spec : {M : Type 1} → statement M
 scalars-below-spec =

@@ -4,7 +4,7 @@ use mathlib.Core.Path.{ap}
 use native.Mathlib.Omega.{arith}
 use borrow.Author.Rules.{rules}
 use lib.ListN.{length, length-set}
-use Rattle.text.proofs.DecimalDigits.{decimal-one, decimal-two, decimal-three, put-digit, put_two, put_three}
+use Rattle.text.proofs.DecimalDigits.{decimal_one, decimal_two, decimal_three, put_digit, put_two, put_three}
 use Rattle.text.proofs.decimal.put_decimal.Statement.{statement}
 use Rattle.text.proofs.decimal.put_decimal.Tie as tie
 
@@ -21,7 +21,7 @@ character-requires c κs = search rules
 slice-write-text : tie.Need-slice-write-text
 slice-write-text c =
     let a = c.before.before.before.args in
-    omega (arith, ap length (decimal-one a.n (omega arith)))
+    omega (arith, ap length (decimal_one a.n (omega arith)))
 
 add-result : tie.Need-overflow-add-result
 add-result c = search rules
@@ -32,7 +32,7 @@ same_length c = search rules
 returns : tie.Need-returns
 returns c =
     let a = c.before.before.before.args in
-    put-digit a.text.now a.at a.n (omega arith) c.character.ensures
+    put_digit a.text.now a.at a.n (omega arith) c.character.ensures
 
 character-requires-2 : tie.Need-character-requires-2
 character-requires-2 c κs = search rules
@@ -40,7 +40,7 @@ character-requires-2 c κs = search rules
 slice-write-text-2 : tie.Need-slice-write-text-2
 slice-write-text-2 c =
     let a = (entry2 c).args in
-    omega (arith, ap length (decimal-two a.n (omega arith) (omega arith)))
+    omega (arith, ap length (decimal_two a.n (omega arith) (omega arith)))
 
 character-requires-3 : tie.Need-character-requires-3
 character-requires-3 c κs = search rules
@@ -51,7 +51,7 @@ add-text c = search rules
 slice-write-text-3 : tie.Need-slice-write-text-3
 slice-write-text-3 c =
     let a = (entry2 c.before).args in
-    simp length-set (omega (arith, ap length (decimal-two a.n (omega arith) (omega arith))))
+    simp length-set (omega (arith, ap length (decimal_two a.n (omega arith) (omega arith))))
 
 add-result-2 : tie.Need-overflow-add-result-2
 add-result-2 c = search rules
@@ -70,7 +70,7 @@ character-requires-4 c κs = search rules
 slice-write-text-4 : tie.Need-slice-write-text-4
 slice-write-text-4 c =
     let a = (entry3 c).args in
-    omega (arith, ap length (decimal-three a.n (omega arith) (omega arith)))
+    omega (arith, ap length (decimal_three a.n (omega arith) (omega arith)))
 
 character-requires-5 : tie.Need-character-requires-5
 character-requires-5 c κs = search rules
@@ -81,7 +81,7 @@ add-text-2 c = search rules
 slice-write-text-5 : tie.Need-slice-write-text-5
 slice-write-text-5 c =
     let a = (entry3 c.before).args in
-    simp length-set (omega (arith, ap length (decimal-three a.n (omega arith) (omega arith))))
+    simp length-set (omega (arith, ap length (decimal_three a.n (omega arith) (omega arith))))
 
 character-requires-6 : tie.Need-character-requires-6
 character-requires-6 c κs = search rules
@@ -92,7 +92,7 @@ add-text-3 c = search rules
 slice-write-text-6 : tie.Need-slice-write-text-6
 slice-write-text-6 c =
     let a = (entry3 c.before.before).args in
-    simp length-set (omega (arith, ap length (decimal-three a.n (omega arith) (omega arith))))
+    simp length-set (omega (arith, ap length (decimal_three a.n (omega arith) (omega arith))))
 
 add-result-3 : tie.Need-overflow-add-result-3
 add-result-3 c = search rules

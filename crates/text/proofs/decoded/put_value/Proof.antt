@@ -1,7 +1,7 @@
--- `put_value` meets its contract. Rests on `value-asked` and `value-put`: the words that the code takes are those of value j.
+-- `put_value` meets its contract. Rests on `value_asked` and `value_put`: the words that the code takes are those of value j.
 -- Assumes nothing.
 use borrow.Author.Rules.{rules}
-use Rattle.text.proofs.ValueLine.{value-asked, value-put}
+use Rattle.text.proofs.ValueLine.{value_asked, value_put}
 use Rattle.text.proofs.decoded.put_value.Statement.{statement}
 use Rattle.text.proofs.decoded.put_value.Tie as tie
 
@@ -39,7 +39,7 @@ part-put-hexadecimal-end c = search rules
 put-hexadecimal-requires : tie.Need-put-hexadecimal-requires
 put-hexadecimal-requires c κs =
     let s = entry (space c) in
-    value-asked s.pre.0 (space c).put-bytes.ensures s.pre.1
+    value_asked s.pre.0 (space c).put-bytes.ensures s.pre.1
 
 same_length : tie.Need-same-length
 same_length c = search rules
@@ -48,7 +48,7 @@ returns : tie.Need-returns
 returns c =
     let p = c.before.before in
     let b = space p.before in
-    value-put (entry b).pre.0 b.put-bytes.ensures p.put-hexadecimal.ensures
+    value_put (entry b).pre.0 b.put-bytes.ensures p.put-hexadecimal.ensures
 
 pub put-value-spec : {M : Type 1} → statement M
 put-value-spec =

@@ -3,10 +3,10 @@
 use Prim.Native.Nat.{◌-◌}
 use mathlib.Core.List.{[]}
 use borrow.Author.Rules.{rules}
-use Rattle.ladder.specs.Listing.{valueWord}
-use Rattle.text.proofs.Fields.{Fielding, line_word, line-room, line-then}
-use Rattle.text.proofs.Putting.{put-length}
-use Rattle.text.proofs.ValueLine.{fields, values-start, values-asked, values-next, values-room, values-end}
+use Rattle.ladder.specs.Listing.{value_word}
+use Rattle.text.proofs.Fields.{Fielding, line_word, line_room, line_then}
+use Rattle.text.proofs.Putting.{put_length}
+use Rattle.text.proofs.ValueLine.{fields, values_start, values_asked, values_next, values_room, values_end}
 use Rattle.text.proofs.decoded.put_value_line.Statement.{statement}
 use Rattle.text.proofs.decoded.put_value_line.Tie as tie
 
@@ -33,23 +33,23 @@ slice-aggregate-put-bytes : tie.Need-slice-aggregate-put-bytes invariant-loop de
 slice-aggregate-put-bytes c = search rules
 
 put-bytes-requires : tie.Need-put-bytes-requires invariant-loop decreases-loop
-unfolding valueWord
+unfolding value_word
 put-bytes-requires c κs =
     let s = c.before.before.before.before in
-    line_word s.args.text.now s.args.at valueWord _ s.requires.1
+    line_word s.args.text.now s.args.at value_word _ s.requires.1
 
 loop-holds : tie.Need-loop-init invariant-loop decreases-loop
 loop-holds c =
     let a = (entry c.before.before).args in
-    values-start a.d a.k a.values.now _ _
+    values_start a.d a.k a.values.now _ _
 
 put-value-requires : tie.Need-put-value-requires invariant-loop decreases-loop
-unfolding valueWord
+unfolding value_word
 put-value-requires c κs =
     let l = turn c in
     let s = entry (word l) in
-    values-asked s.args.d s.args.k s.args.values.now l.loop.inv (search rules) s.pre.0
-    (line-room (word l).put-bytes.ensures _ s.pre.1)
+    values_asked s.args.d s.args.k s.args.values.now l.loop.inv (search rules) s.pre.0
+    (line_room (word l).put-bytes.ensures _ s.pre.1)
 
 add-j : tie.Need-overflow-add-j invariant-loop decreases-loop
 add-j c = search rules
@@ -62,30 +62,30 @@ loop-again c =
     let p = c.before.before in
     let l = turn p.before in
     let a = (entry (word l)).args in
-    values-next a.d a.k a.values.now l.loop.inv (search rules) p.put-value.ensures
+    values_next a.d a.k a.values.now l.loop.inv (search rules) p.put-value.ensures
 
 slice-aggregate-put-bytes-2 : tie.Need-slice-aggregate-put-bytes-2 invariant-loop decreases-loop
 slice-aggregate-put-bytes-2 c = search rules
 
 put-bytes-requires-2 : tie.Need-put-bytes-requires-2 invariant-loop decreases-loop
-unfolding valueWord
+unfolding value_word
 put-bytes-requires-2 c κs =
     let l = left c in
     let s = entry (word l) in
-    values-room s.args.d s.args.k s.args.values.now l.loop.inv (search rules)
-    (line-room (word l).put-bytes.ensures _ s.pre.1)
+    values_room s.args.d s.args.k s.args.values.now l.loop.inv (search rules)
+    (line_room (word l).put-bytes.ensures _ s.pre.1)
 
 returns : tie.Need-returns invariant-loop decreases-loop
-unfolding valueWord
+unfolding value_word
 returns c =
     let e = c.before.before in
     let l = left e.before in
     let a = (entry (word l)).args in
-    line-then (word l).put-bytes.ensures _
-    (values-end a.d a.k a.values.now l.loop.inv (search rules) e.put-bytes2.ensures)
+    line_then (word l).put-bytes.ensures _
+    (values_end a.d a.k a.values.now l.loop.inv (search rules) e.put-bytes2.ensures)
 
 same_length : tie.Need-same-length invariant-loop decreases-loop
-same_length c = put-length (returns c)
+same_length c = put_length (returns c)
 
 pub put-value-line-spec : {M : Type 1} → statement M
 put-value-line-spec =

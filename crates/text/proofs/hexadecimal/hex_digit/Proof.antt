@@ -1,8 +1,8 @@
--- `hex_digit` meets its contract. Rests on `hex-digit`: digit i stands in word i / 16.
+-- `hex_digit` meets its contract. Rests on `hex_digit`: digit i stands in word i / 16.
 -- Assumes nothing.
 use native.Mathlib.Omega.{arith}
 use borrow.Author.Rules.{rules}
-use Rattle.text.proofs.HexDigits.{hex-digit}
+use Rattle.text.proofs.HexDigits.{hex_digit}
 use Rattle.text.proofs.hexadecimal.hex_digit.Statement.{statement}
 use Rattle.text.proofs.hexadecimal.hex_digit.Tie as tie
 
@@ -19,7 +19,7 @@ shr-result : tie.Need-overflow-shr-result
 shr-result c = search rules
 
 returns : tie.Need-returns
-returns c = hex-digit c.before.args.words.now (λ i. omega (arith, c.shared-slice-known.given i)) c.before.args.i
+returns c = hex_digit c.before.args.words.now (λ i. omega (arith, c.shared-slice-known.given i)) c.before.args.i
 
 pub hex-digit-spec : {M : Type 1} → statement M
 hex-digit-spec =

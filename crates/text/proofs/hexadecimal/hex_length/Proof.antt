@@ -2,7 +2,7 @@
 -- Assumes nothing.
 use native.Mathlib.Omega.{arith}
 use borrow.Author.Rules.{rules}
-use Rattle.text.proofs.HexDigits.{Above, above-start, above-next, above-found, above-end}
+use Rattle.text.proofs.HexDigits.{Above, above_start, above_next, above_found, above_end}
 use Rattle.text.proofs.hexadecimal.hex_length.Statement.{statement}
 use Rattle.text.proofs.hexadecimal.hex_length.Tie as tie
 
@@ -16,7 +16,7 @@ mul-n : tie.Need-overflow-mul-n invariant-loop decreases-loop
 mul-n c = search rules
 
 loop-holds : tie.Need-loop-init invariant-loop decreases-loop
-loop-holds c = above-start c.before.args.words.now (λ i. omega (arith, c.shared-slice-known.given i)) (search rules)
+loop-holds c = above_start c.before.args.words.now (λ i. omega (arith, c.shared-slice-known.given i)) (search rules)
 
 sub-hex-digit : tie.Need-overflow-sub-hex-digit invariant-loop decreases-loop
 sub-hex-digit c = search rules
@@ -25,7 +25,7 @@ hex-digit-requires : tie.Need-hex-digit-requires invariant-loop decreases-loop
 hex-digit-requires c κs = search rules
 
 returns : tie.Need-returns invariant-loop decreases-loop
-returns c = above-found c.before.before.before.loop.invariant (λ e. omega (arith, c.before.hex-digit.ensures))
+returns c = above_found c.before.before.before.loop.invariant (λ e. omega (arith, c.before.hex_digit.ensures))
 
 sub-n : tie.Need-overflow-sub-n invariant-loop decreases-loop
 sub-n c = search rules
@@ -34,10 +34,10 @@ loop-less : tie.Need-loop-smaller invariant-loop decreases-loop
 loop-less c = search rules
 
 loop-again : tie.Need-loop-preserved invariant-loop decreases-loop
-loop-again c = above-next c.before.before.before.loop.invariant (search rules) (omega (arith, c.before.hex-digit.ensures))
+loop-again c = above_next c.before.before.before.loop.invariant (search rules) (omega (arith, c.before.hex_digit.ensures))
 
 returns-2 : tie.Need-returns-2 invariant-loop decreases-loop
-returns-2 c = above-end c.before.loop.invariant (search rules)
+returns-2 c = above_end c.before.loop.invariant (search rules)
 
 pub hex-length-spec : {M : Type 1} → statement M
 hex-length-spec =

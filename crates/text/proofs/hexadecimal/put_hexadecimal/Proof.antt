@@ -6,8 +6,8 @@ use native.Mathlib.Omega.{arith}
 use borrow.Author.Rules.{rules}
 use Rattle.ladder.specs.Listing.{hexadecimal}
 use Rattle.ladder.specs.Numbers.{number_of}
-use Rattle.text.proofs.Spelling.{Spelling, spelling-start, spelling-length, spelling-room, spelling-next, spelling-end}
-use Rattle.text.proofs.HexDigits.{hex-within, hex-character}
+use Rattle.text.proofs.Spelling.{Spelling, spelling_start, spelling_length, spelling_room, spelling_next, spelling_end}
+use Rattle.text.proofs.HexDigits.{hex_within, hex_character}
 use Rattle.text.proofs.hexadecimal.put_hexadecimal.Statement.{statement}
 use Rattle.text.proofs.hexadecimal.put_hexadecimal.Tie as tie
 
@@ -27,7 +27,7 @@ hex-length-requires c κs = search rules
 loop-holds : tie.Need-loop-init invariant-loop decreases-loop
 loop-holds c =
     let a = (entry c).args in
-    spelling-start (hexadecimal (number_of a.words.now)) a.text.now a.at
+    spelling_start (hexadecimal (number_of a.words.now)) a.text.now a.at
 
 sub-hex-digit : tie.Need-overflow-sub-hex-digit invariant-loop decreases-loop
 sub-hex-digit c = search rules
@@ -40,7 +40,7 @@ hex-digit-requires c κs =
     let known = c.before.before.before.before in
     omega (
       arith,
-      hex-within known.before.args.words.now (λ i. omega (arith, known.shared-slice-known.given i)) known.before.requires.0,
+      hex_within known.before.args.words.now (λ i. omega (arith, known.shared-slice-known.given i)) known.before.requires.0,
       c.before.before.hex-length.ensures,
     )
 
@@ -53,7 +53,7 @@ add-text c = search rules
 slice-write-text : tie.Need-slice-write-text invariant-loop decreases-loop
 slice-write-text c =
     let w = c.before.before.before in
-    spelling-room w.loop.invariant (omega (arith, w.before.hex-length.ensures)) (entry w.before).pre.1.1
+    spelling_room w.loop.invariant (omega (arith, w.before.hex-length.ensures)) (entry w.before).pre.1.1
 
 add-i : tie.Need-overflow-add-i invariant-loop decreases-loop
 add-i c = search rules
@@ -65,19 +65,19 @@ loop-again : tie.Need-loop-preserved invariant-loop decreases-loop
 loop-again c =
     let w = c.before.before.before in
     let count = w.before.hex-length in
-    spelling-next w.loop.invariant (omega (arith, count.ensures)) _
-    (c.character.ensures ∙ hex-character _ count.result w.loop.i count.ensures (search rules) c.before.hex-digit.ensures)
+    spelling_next w.loop.invariant (omega (arith, count.ensures)) _
+    (c.character.ensures ∙ hex_character _ count.result w.loop.i count.ensures (search rules) c.before.hex_digit.ensures)
 
 add-result : tie.Need-overflow-add-result invariant-loop decreases-loop
 add-result c = search rules
 
 same_length : tie.Need-same-length invariant-loop decreases-loop
-same_length c = spelling-length c.before.loop.invariant
+same_length c = spelling_length c.before.loop.invariant
 
 returns : tie.Need-returns invariant-loop decreases-loop
 returns c =
     let count = c.before.before.hex-length in
-    spelling-end c.before.loop.invariant (omega (arith, count.ensures)) (omega (arith, count.ensures))
+    spelling_end c.before.loop.invariant (omega (arith, count.ensures)) (omega (arith, count.ensures))
 
 pub put-hexadecimal-spec : {M : Type 1} → statement M
 put-hexadecimal-spec =

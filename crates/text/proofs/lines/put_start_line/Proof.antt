@@ -6,11 +6,11 @@ use mathlib.Core.List.{[], map}
 use native.Mathlib.Omega.{arith}
 use borrow.Author.Rules.{rules}
 use lib.ListN.{length, length-map}
-use Rattle.ladder.specs.Listing.{line, startWord, decimal}
+use Rattle.ladder.specs.Listing.{line, start_word, decimal}
 use Rattle.ladder.proofs.Lists.{get_d_map}
 use Rattle.text.specs.Inner.{Fits}
-use Rattle.text.proofs.Putting.{put-none, put-length}
-use Rattle.text.proofs.Fields.{line_word, line-room, line-then, Fielding, fielding-start, fielding-room, fielding-next, fielding-room-end, fielding-end}
+use Rattle.text.proofs.Putting.{put_none, put_length}
+use Rattle.text.proofs.Fields.{line_word, line_room, line_then, Fielding, fielding_start, fielding_room, fielding_next, fielding_room_end, fielding_end}
 use Rattle.text.proofs.lines.put_start_line.Statement.{statement}
 use Rattle.text.proofs.lines.put_start_line.Tie as tie
 
@@ -37,17 +37,17 @@ slice-aggregate-put-bytes : tie.Need-slice-aggregate-put-bytes invariant-loop de
 slice-aggregate-put-bytes c = search rules
 
 put-bytes-requires : tie.Need-put-bytes-requires invariant-loop decreases-loop
-unfolding startWord
-put-bytes-requires c κs = let s = c.before.before.before.before in line_word s.args.text.now _ startWord _ s.requires.1
+unfolding start_word
+put-bytes-requires c κs = let s = c.before.before.before.before in line_word s.args.text.now _ start_word _ s.requires.1
 
 -- After the word there is room for the rest of the line.
 rest-fits : (b : tie.After-put-bytes invariant-loop decreases-loop)
     → Fits b.put-bytes.new.1.0 b.put-bytes.result (line [] (map decimal (entry b).args.start.now))
-unfolding startWord
-rest-fits b = line-room b.put-bytes.ensures _ (entry b).requires.1
+unfolding start_word
+rest-fits b = line_room b.put-bytes.ensures _ (entry b).requires.1
 
 loop-holds : tie.Need-loop-init invariant-loop decreases-loop
-loop-holds c = fielding-start _ (put-none _ _)
+loop-holds c = fielding_start _ (put_none _ _)
 
 shared-slice-read-put-number : tie.Need-shared-slice-read-put-number invariant-loop decreases-loop
 shared-slice-read-put-number c = search rules
@@ -62,7 +62,7 @@ put-number-requires c κs =
     let start = s.args.start.now in
     let i = l.loop.i in
     let h : i < length start = omega arith in
-    let room = fielding-room l.loop.inv (omega (arith, length-map start decimal)) (rest-fits (word l)) in
+    let room = fielding_room l.loop.inv (omega (arith, length-map start decimal)) (rest-fits (word l)) in
     (omega (arith, s.pre.0 i h), rw (get_d_map decimal start i 0 [] h) at room)
 
 add-i : tie.Need-overflow-add-i invariant-loop decreases-loop
@@ -78,7 +78,7 @@ loop-again c =
     let start = (entry (word l)).args.start.now in
     let i = l.loop.i in
     let h : i < length start = omega arith in
-    fielding-next l.loop.inv (omega (arith, length-map start decimal)) (sym (get_d_map decimal start i 0 [] h)) p.put-number.ensures
+    fielding_next l.loop.inv (omega (arith, length-map start decimal)) (sym (get_d_map decimal start i 0 [] h)) p.put-number.ensures
 
 slice-aggregate-put-bytes-2 : tie.Need-slice-aggregate-put-bytes-2 invariant-loop decreases-loop
 slice-aggregate-put-bytes-2 c = search rules
@@ -87,18 +87,18 @@ put-bytes-requires-2 : tie.Need-put-bytes-requires-2 invariant-loop decreases-lo
 put-bytes-requires-2 c κs =
     let l = left c in
     let long = length-map (entry (word l)).args.start.now decimal in
-    fielding-room-end l.loop.inv (omega (arith, long)) (rest-fits (word l))
+    fielding_room_end l.loop.inv (omega (arith, long)) (rest-fits (word l))
 
 returns : tie.Need-returns invariant-loop decreases-loop
-unfolding startWord
+unfolding start_word
 returns c =
     let e = c.before.before in
     let l = left e.before in
     let long = length-map (entry (word l)).args.start.now decimal in
-    line-then (word l).put-bytes.ensures _ (fielding-end l.loop.inv (omega (arith, long)) e.put-bytes2.ensures)
+    line_then (word l).put-bytes.ensures _ (fielding_end l.loop.inv (omega (arith, long)) e.put-bytes2.ensures)
 
 same_length : tie.Need-same-length invariant-loop decreases-loop
-same_length c = put-length (returns c)
+same_length c = put_length (returns c)
 
 pub put-start-line-spec : {M : Type 1} → statement M
 put-start-line-spec =

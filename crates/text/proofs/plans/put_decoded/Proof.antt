@@ -1,17 +1,17 @@
--- `put_decoded` meets its contract: the walk of a plan that is not refused yields the words of its answer row (`row-decoded`).
+-- `put_decoded` meets its contract: the walk of a plan that is not refused yields the words of its answer row (`row_decoded`).
 -- Assumes nothing.
 use Prim.Native.Nat.{◌*◌, ◌≤◌}
 use mathlib.Core.Path.{◌≡◌, sym, ap, subst, ◌∙◌}
 use native.Mathlib.Omega.{arith}
 use lib.Seq.{length-take-le}
-use Rattle.ladder.specs.Numbers.{valuesLength}
-use Rattle.ladder.specs.Plan.{Plan, planLent, valuesIn}
+use Rattle.ladder.specs.Numbers.{values_length}
+use Rattle.ladder.specs.Plan.{Plan, plan_lent, values_in}
 use Rattle.ladder.proofs.Operations.{PlanOk}
-use Rattle.judge.proofs.Starting.{can-start}
-use Rattle.values.proofs.Decoded.{begun-d, at-start, row-decoded}
+use Rattle.judge.proofs.Starting.{can_start}
+use Rattle.values.proofs.Decoded.{begun_d, at_start, row_decoded}
 use Rattle.text.specs.Inner.{Fits}
 use Rattle.text.proofs.Putting.{put_as}
-use Rattle.text.proofs.PlanLines.{plan-ok, scratch, values-in, values-line}
+use Rattle.text.proofs.PlanLines.{plan_ok, scratch, values_in_lem, values_line}
 use borrow.Author.Rules.{rules}
 use Rattle.text.proofs.plans.put_decoded.Statement.{statement}
 use Rattle.text.proofs.plans.put_decoded.Tie as tie
@@ -31,23 +31,23 @@ decoded c = c.before.before.before.before
 
 -- The plan that is lent.
 abbrev lent : tie.Start → Plan
-lent b = let a = b.args in planLent a.d a.l a.start.now a.bits.now a.row
+lent b = let a = b.args in plan_lent a.d a.l a.start.now a.bits.now a.row
 
 ready : (b : tie.Start) → PlanOk (lent b)
-ready b = plan-ok (lent b) b.requires.accepted
+ready b = plan_ok (lent b) b.requires.accepted
 
 value-words-requires : tie.Need-value-words-requires
 value-words-requires c κs = search rules
 
 -- There is room for the values.
-room : (c : tie.After-value-words) → (entry c).args.d * c.value-words.result ≤ 80
-room c = scratch (lent (entry c)) (ready (entry c)) _ c.value-words.ensures
+room : (c : tie.After-value-words) → (entry c).args.d * c.value_words.result ≤ 80
+room c = scratch (lent (entry c)) (ready (entry c)) _ c.value_words.ensures
 
 mul-n : tie.Need-overflow-mul-n
 mul-n c = omega (arith, room c)
 
 start-walk-requires : tie.Need-start-walk-requires
-start-walk-requires c κs = can-start (lent (entry c)) (ready (entry c)).plan
+start-walk-requires c κs = can_start (lent (entry c)) (ready (entry c)).plan
 
 array-borrow-prefix-room : tie.Need-array-borrow-prefix-room
 array-borrow-prefix-room c = room (counted c)
@@ -56,32 +56,32 @@ slice-aggregate-values : tie.Need-slice-aggregate-values
 slice-aggregate-values c = sym (length-take-le _ _ (room (counted c.before)))
 
 sub-answer-values : tie.Need-overflow-sub-answer-values
-sub-answer-values c = (ready (entry (counted c.before))).plan.answerLow
+sub-answer-values c = (ready (entry (counted c.before))).plan.answer_low
 
 answer-values-requires : tie.Need-answer-values-requires
-unfolding valuesLength
+unfolding values_length
 answer-values-requires c κs =
     let w = c.before.before in
     let v = counted w in
     let p = lent (entry v) in
     let ok = ready (entry v) in (
-      omega (arith, begun-d p w.start-walk.ensures, ok.plan.answerHigh),
-      at-start p w.start-walk.ensures ok _ (length-take-le _ _ (room v) ∙ ap (λ k. p.d * k) v.value-words.ensures),
+      omega (arith, begun_d p w.start-walk.ensures, ok.plan.answer_high),
+      at_start p w.start-walk.ensures ok _ (length-take-le _ _ (room v) ∙ ap (λ k. p.d * k) v.value_words.ensures),
     )
 
 -- What the walk leaves are the words of the answer row.
-left : (c : tie.After-answer-values) → c.answer-values.new.1.1.1.1.0 ≡ valuesIn (lent (entry (counted (started c))))
+left : (c : tie.After-answer-values) → c.answer-values.new.1.1.1.1.0 ≡ values_in (lent (entry (counted (started c))))
 left c =
     let b = entry (counted (started c)) in
-    c.answer-values.ensures ∙ row-decoded (lent b) (started c).start-walk.ensures (ready b).plan
+    c.answer-values.ensures ∙ row_decoded (lent b) (started c).start-walk.ensures (ready b).plan
 
 put-value-line-requires : tie.Need-put-value-line-requires
 put-value-line-requires c κs =
     let v = counted (started (decoded c)) in
     let b = entry v in
-    let words = v.value-words.ensures in (
-      values-in (lent b) (ready b) _ words (left (decoded c)),
-      subst (λ piece. Fits b.args.text.now b.args.at piece) (sym (values-line (lent b) (ready b) _ words (left (decoded c)))) b.pre.fits,
+    let words = v.value_words.ensures in (
+      values_in_lem (lent b) (ready b) _ words (left (decoded c)),
+      subst (λ piece. Fits b.args.text.now b.args.at piece) (sym (values_line (lent b) (ready b) _ words (left (decoded c)))) b.pre.fits,
     )
 
 same_length : tie.Need-same-length
@@ -91,7 +91,7 @@ returns : tie.Need-returns
 returns c =
     let put = c.before.before.before in
     let v = counted (started (decoded put.before)) in
-    put_as put.put-value-line.ensures (values-line (lent (entry v)) (ready (entry v)) _ v.value-words.ensures (left (decoded put.before)))
+    put_as put.put-value-line.ensures (values_line (lent (entry v)) (ready (entry v)) _ v.value_words.ensures (left (decoded put.before)))
 
 pub put-decoded-spec : {M : Type 1} → statement M
 put-decoded-spec =

@@ -1,8 +1,8 @@
--- `character` meets its contract. Rests on `character-digit` and `character-letter`.
+-- `character` meets its contract. Rests on `character-digit` and `character_letter`.
 -- Assumes nothing.
 use native.Mathlib.Omega.{arith}
 use borrow.Author.Rules.{rules}
-use Rattle.text.proofs.Spelling.{character-digit, character-letter}
+use Rattle.text.proofs.Spelling.{character-digit, character_letter}
 use Rattle.text.proofs.put.character.Statement.{statement}
 use Rattle.text.proofs.put.character.Tie as tie
 
@@ -22,7 +22,7 @@ cast-result-2 : tie.Need-overflow-cast-result-2
 cast-result-2 c = search rules
 
 returns-2 : tie.Need-returns-2
-returns-2 c = character-letter c.before.args.x (omega arith)
+returns-2 c = character_letter c.before.args.x (omega arith)
 
 pub character-spec : {M : Type 1} → statement M
 character-spec =

@@ -10,11 +10,11 @@ use Rattle.ladder.specs.Listing.{character}
 use Rattle.ladder.specs.Numbers.{bits_at}
 use Rattle.ladder.specs.Walk.{bits_of}
 use Rattle.ladder.proofs.Lists.{get_d_map}
-use Rattle.ladder.proofs.Walk.{length-bitsOf}
+use Rattle.ladder.proofs.Walk.{length-bits_of}
 use Rattle.bits.proofs.StepBits.{bit_below}
 use Rattle.text.specs.Inner.{Fits}
 use Rattle.text.proofs.Putting.{put_as}
-use Rattle.text.proofs.Spelling.{Spelling, spelling-start, spelling-length, spelling-room, spelling-next, spelling-end}
+use Rattle.text.proofs.Spelling.{Spelling, spelling_start, spelling_length, spelling_room, spelling_next, spelling_end}
 use Rattle.text.proofs.steps.put_bits.Statement.{statement}
 use Rattle.text.proofs.steps.put_bits.Tie as tie
 
@@ -33,7 +33,7 @@ read c = c.before
 
 -- There are d of them.
 shown-long : (d r : ℕ) → length (map character (bits_of d r)) ≡ d
-shown-long d r = length-map (bits_of d r) character ∙ length-bitsOf d r
+shown-long d r = length-map (bits_of d r) character ∙ length-bits_of d r
 
 -- They are the plan's, so there is room for them.
 shown : (c : tie.After-step-bits invariant-loop decreases-loop)
@@ -45,13 +45,13 @@ room : (c : tie.After-step-bits invariant-loop decreases-loop)
 room c = subst (λ piece. Fits (entry c).args.text.now (entry c).args.at piece) (sym (shown c)) (entry c).requires.1
 
 step-bits-requires : tie.Need-step-bits-requires invariant-loop decreases-loop
-step-bits-requires c κs = let p = c.before.before.requires.0 in (p.dHigh, (p.sHigh, p.inside))
+step-bits-requires c κs = let p = c.before.before.requires.0 in (p.d_high, (p.s_high, p.inside))
 
 loop-holds : tie.Need-loop-init invariant-loop decreases-loop
-loop-holds c = spelling-start _ _ _
+loop-holds c = spelling_start _ _ _
 
 bit-requires : tie.Need-bit-requires invariant-loop decreases-loop
-bit-requires c κs = (search rules, (entry (read c.before)).pre.0.dHigh)
+bit-requires c κs = (search rules, (entry (read c.before)).pre.0.d_high)
 
 character-requires : tie.Need-character-requires invariant-loop decreases-loop
 character-requires c κs = omega (arith, c.bit.ensures, bit_below (entry (read c.before.before)).args.d (read c.before.before).step-bits.result c.before.before.loop.k)
@@ -62,7 +62,7 @@ add-text c = search rules
 slice-write-text : tie.Need-slice-write-text invariant-loop decreases-loop
 slice-write-text c =
     let l = c.before.before.before in
-    spelling-room l.loop.invariant (omega (arith, shown-long (entry (read l)).args.d (read l).step-bits.result)) (room (read l))
+    spelling_room l.loop.invariant (omega (arith, shown-long (entry (read l)).args.d (read l).step-bits.result)) (room (read l))
 
 add-k : tie.Need-overflow-add-k invariant-loop decreases-loop
 add-k c = search rules
@@ -75,9 +75,9 @@ loop-again c =
     let l = c.before.before.before in
     let d = (entry (read l)).args.d in
     let r = (read l).step-bits.result in
-    spelling-next l.loop.invariant (omega (arith, shown-long d r)) _
+    spelling_next l.loop.invariant (omega (arith, shown-long d r)) _
     (c.character.ensures ∙ ap character c.before.bit.ensures
-    ∙ sym (get_d_map character (bits_of d r) l.loop.k 0 0 (omega (arith, length-bitsOf d r))))
+    ∙ sym (get_d_map character (bits_of d r) l.loop.k 0 0 (omega (arith, length-bits_of d r))))
 
 add-result : tie.Need-overflow-add-result invariant-loop decreases-loop
 add-result c =
@@ -85,13 +85,13 @@ add-result c =
     omega (arith, room b, shown-long (entry b).args.d b.step-bits.result)
 
 same_length : tie.Need-same-length invariant-loop decreases-loop
-same_length c = spelling-length c.before.loop.invariant
+same_length c = spelling_length c.before.loop.invariant
 
 returns : tie.Need-returns invariant-loop decreases-loop
 returns c =
     let b = read c.before in
     let long = shown-long (entry b).args.d b.step-bits.result in
-    put_as (spelling-end c.before.loop.invariant (omega arith) (omega arith)) (shown b)
+    put_as (spelling_end c.before.loop.invariant (omega arith) (omega arith)) (shown b)
 
 pub put-bits-spec : {M : Type 1} → statement M
 put-bits-spec =

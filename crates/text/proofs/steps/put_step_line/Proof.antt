@@ -8,9 +8,9 @@ use native.Mathlib.Omega.{arith}
 use borrow.Author.Rules.{rules}
 use Rattle.ladder.specs.Numbers.{bits_at}
 use Rattle.ladder.specs.Listing.{line, decimal, character}
-use Rattle.text.specs.Inner.{Fits, stepText}
-use Rattle.text.proofs.Putting.{put_then, put-room}
-use Rattle.text.proofs.Fields.{line_word, Fielding, fielding-start, fielding-room, fielding-next, fielding-room-end, fielding-end}
+use Rattle.text.specs.Inner.{Fits, step_text}
+use Rattle.text.proofs.Putting.{put_then, put_room}
+use Rattle.text.proofs.Fields.{line_word, Fielding, fielding_start, fielding_room, fielding_next, fielding_room_end, fielding_end}
 use Rattle.text.proofs.steps.put_step_line.Statement.{statement}
 use Rattle.text.proofs.steps.put_step_line.Tie as tie
 
@@ -40,7 +40,7 @@ Fielded s text next i = Fielding (decimal (s.args.s + 1)) (shown s ∷ []) s.arg
 
 -- The line, with its number as the code has it, fits.
 room : (s : tie.Start) → Fits s.args.text.now s.args.at (line (decimal (s.args.s + 1)) (shown s ∷ []))
-unfolding stepText
+unfolding step_text
 room s = rw (add-one s.args.s) s.requires.1
 
 add-put-decimal : tie.Need-overflow-add-put-decimal
@@ -49,17 +49,17 @@ add-put-decimal c = search rules
 put-decimal-requires : tie.Need-put-decimal-requires
 put-decimal-requires c κs =
     let s = c.before.before.before in
-    (omega (arith, s.requires.0.sHigh), line_word s.args.text.now _ _ _ (room s))
+    (omega (arith, s.requires.0.s_high), line_word s.args.text.now _ _ _ (room s))
 
 slice-aggregate-put-bytes : tie.Need-slice-aggregate-put-bytes
 slice-aggregate-put-bytes c = search rules
 
 numbered : (b : tie.After-put-decimal) → Fielded (entry b) (counted b) b.put-decimal.result 0
-numbered b = fielding-start _ b.put-decimal.ensures
+numbered b = fielding_start _ b.put-decimal.ensures
 
 -- There is room for a space and the bits.
 field_room : (b : tie.After-put-decimal) → Fits (counted b) b.put-decimal.result (32 ∷ shown (entry b))
-field_room b = fielding-room (numbered b) (omega arith) (room (entry b))
+field_room b = fielding_room (numbered b) (omega arith) (room (entry b))
 
 put-bytes-requires : tie.Need-put-bytes-requires
 put-bytes-requires c κs = omega (arith, field_room c.before.before.before.before)
@@ -68,10 +68,10 @@ put-bits-requires : tie.Need-put-bits-requires
 put-bits-requires c κs =
     let b = c.before.before.before in
     let s = entry (number b) in
-    (s.pre.0, put-room b.put-bytes.ensures (shown s) (field_room (number b)))
+    (s.pre.0, put_room b.put-bytes.ensures (shown s) (field_room (number b)))
 
 field : (b : tie.After-put-bits) → Fielded (entry (number (space b))) b.put-bits.new.1.1.1.0 b.put-bits.result 1
-field b = fielding-next (numbered (number (space b))) (omega arith) refl (put_then (space b).put-bytes.ensures b.put-bits.ensures)
+field b = fielding_next (numbered (number (space b))) (omega arith) refl (put_then (space b).put-bytes.ensures b.put-bits.ensures)
 
 slice-aggregate-put-bytes-2 : tie.Need-slice-aggregate-put-bytes-2
 slice-aggregate-put-bytes-2 c = search rules
@@ -79,17 +79,17 @@ slice-aggregate-put-bytes-2 c = search rules
 put-bytes-requires-2 : tie.Need-put-bytes-requires-2
 put-bytes-requires-2 c κs =
     let b = ends c in
-    fielding-room-end (field b) (omega arith) (room (entry (number (space b))))
+    fielding_room_end (field b) (omega arith) (room (entry (number (space b))))
 
 same_length : tie.Need-same-length
 same_length c = search rules
 
 returns : tie.Need-returns
-unfolding stepText
+unfolding step_text
 returns c =
     let e = c.before.before in
     let b = ends e.before in
-    let whole = fielding-end (field b) (omega arith) e.put-bytes2.ensures in
+    let whole = fielding_end (field b) (omega arith) e.put-bytes2.ensures in
     rw (add-one (entry (number (space b))).args.s) at whole
 
 pub put-step-line-spec : {M : Type 1} → statement M

@@ -11,20 +11,20 @@ use lib.ListN.{length, set, replicate}
 use lib.Seq.{sets}
 use mir.Syntax.{w64}
 use mir.Val.{Fits}
-use Rattle.ladder.specs.Trace.{entryBytes}
-use Rattle.walk.specs.WalkState.{walkState}
+use Rattle.ladder.specs.Trace.{entry_bytes}
+use Rattle.walk.specs.WalkState.{walk_state}
 use Rattle.bits.proofs.Additions.{entry_at}
-use Rattle.bits.proofs.Moving.{Reads, moving-reads}
-use Rattle.bits.proofs.SmallSigns.{unit_kept, unit-fits, unit-turned}
-use Rattle.bits.proofs.StepBits.{ones-room}
+use Rattle.bits.proofs.Moving.{Reads, moving_reads}
+use Rattle.bits.proofs.SmallSigns.{unit_kept, unit_fits, unit_turned}
+use Rattle.bits.proofs.StepBits.{ones_room}
 use Rattle.trace.proofs.Blocks.{block_size}
-use Rattle.trace.proofs.StepBlocks.{Walked, walked_start, walked-room, walked_next, walked_end}
+use Rattle.trace.proofs.StepBlocks.{Walked, walked_start, walked_room, walked_next, walked_end}
 use Rattle.trace.proofs.block.write_block.Statement.{statement}
 use Rattle.trace.proofs.block.write_block.Tie as tie
 
 abbrev invariant-loop : tie.invariant-loop
 invariant-loop w r out₀ at d old before vector₀ order₀ signs₀ x₀ next₀ k₀ out vector order signs x next k =
-    Walked (walkState w) r out₀ at out vector order signs x next k
+    Walked (walk_state w) r out₀ at out vector order signs x next k
 
 abbrev decreases-loop : tie.decreases-loop
 decreases-loop w r out₀ at d old before vector₀ order₀ signs₀ x₀ next₀ k₀ out vector order signs x next k = d - k
@@ -52,35 +52,35 @@ filled c = c.before.before.before.before
 -- What the place reads.
 read : (c : tie.After-bit invariant-loop decreases-loop) → let l = c.before.before in let w = (entered l).args.w in
     Reads w.d w.order w.signs l.loop.x l.loop.k c.bit.result
-unfolding walkState
+unfolding walk_state
 read c =
     let l = c.before.before in
-    moving-reads (entered l).requires.0 _ l.loop.invariant.moving c.before.loop-test.true _ c.bit.ensures
+    moving_reads (entered l).requires.0 _ l.loop.invariant.moving c.before.loop-test.true _ c.bit.ensures
 
 -- There is room for the addition's entry, and its rows are rows.
 room : (c : tie.After-bit invariant-loop decreases-loop) → let l = c.before.before in let d = (entered l).args.w.d in
     (l.loop.x - c.bit.result + (l.loop.k + 1) ≤ d) × (l.loop.next + (d + 2) ≤ length l.loop.out)
-unfolding walkState
+unfolding walk_state
 room c =
     let l = c.before.before in
     let s = entered l in
-    walked-room s.pre.0 s.args.r _ s.args.at l.loop.invariant c.before.loop-test.true
+    walked_room s.pre.0 s.args.r _ s.args.at l.loop.invariant c.before.loop-test.true
     c.bit.result c.bit.ensures
 
 ones-in-requires : tie.Need-ones-in-requires invariant-loop decreases-loop
-unfolding walkState
+unfolding walk_state
 ones-in-requires c κs = c.before.before.before.requires.0.high
 
 write-entry-requires : tie.Need-write-entry-requires invariant-loop decreases-loop
-unfolding walkState
+unfolding walk_state
 write-entry-requires c κs =
     let s = entry c.before in
     let most : c.before.ones_in_lem.result ≤ 8 =
-    omega (arith, c.before.ones_in_lem.ensures, s.pre.0.high, ones-room s.args.w.d s.args.r 0 (omega arith)) in
+    omega (arith, c.before.ones_in_lem.ensures, s.pre.0.high, ones_room s.args.w.d s.args.r 0 (omega arith)) in
     (s.pre.0.high, (most, (most, omega (arith, s.pre.1, block_size s.args.w.d))))
 
 add-next : tie.Need-overflow-add-next invariant-loop decreases-loop
-unfolding walkState
+unfolding walk_state
 add-next c = omega (arith, (entry (counted c)).pre.0.high)
 
 add-next-2 : tie.Need-overflow-add-next-2 invariant-loop decreases-loop
@@ -89,14 +89,14 @@ add-next-2 c =
     omega (arith, s.pre.1, block_size s.args.w.d)
 
 loop-holds : tie.Need-loop-init invariant-loop decreases-loop
-unfolding walkState
+unfolding walk_state
 loop-holds c =
     let s = entry (counted c) in
     let same = c.before.before.write-entry.auto in
     walked_start s.pre.0 s.args.r _ s.args.at (omega (arith, s.pre.1)) _ (counted c).ones_in_lem.ensures
 
 bit-requires : tie.Need-bit-requires invariant-loop decreases-loop
-unfolding walkState
+unfolding walk_state
 bit-requires c κs = (c.loop-test.true, (entered c.before).pre.0.high)
 
 sub-x : tie.Need-overflow-sub-x invariant-loop decreases-loop
@@ -127,7 +127,7 @@ array-copy-out-s : tie.Need-array-copy-out-s invariant-loop decreases-loop
 array-copy-out-s c = omega (arith, (read c).column, (read c).place)
 
 sub-signs : tie.Need-overflow-sub-signs invariant-loop decreases-loop
-sub-signs c = unit-fits _ (read c.before.before).unit
+sub-signs c = unit_fits _ (read c.before.before).unit
 
 array-set-from-signs : tie.Need-array-set-from-signs invariant-loop decreases-loop
 array-set-from-signs c = array-copy-out-s c.before.before
@@ -148,14 +148,14 @@ add-write-entry : tie.Need-overflow-add-write-entry invariant-loop decreases-loo
 add-write-entry c = omega (arith, room (bitRead c), (read (bitRead c)).place)
 
 write-entry-requires-2 : tie.Need-write-entry-requires-2 invariant-loop decreases-loop
-unfolding walkState
+unfolding walk_state
 write-entry-requires-2 c κs =
     let b = bitRead c.before in
     let high = (read b).place.3 in
     (high, (omega (arith, room b, high), (omega (arith, room b, high), (room b).1)))
 
 add-next-3 : tie.Need-overflow-add-next-3 invariant-loop decreases-loop
-unfolding walkState
+unfolding walk_state
 add-next-3 c = omega (arith, (entered (bitRead (filled c)).before.before).pre.0.high)
 
 add-next-4 : tie.Need-overflow-add-next-4 invariant-loop decreases-loop
@@ -171,7 +171,7 @@ loop-less : tie.Need-loop-smaller invariant-loop decreases-loop
 loop-less c = omega (arith, (bitRead (filled c)).before.loop-test.taken)
 
 loop-again : tie.Need-loop-preserved invariant-loop decreases-loop
-unfolding walkState
+unfolding walk_state
 loop-again c =
     let b = bitRead (filled c) in
     let l = b.before.before in
@@ -180,7 +180,7 @@ loop-again c =
     let next = walked_next s.pre.0 s.args.r _ s.args.at l.loop.inv b.before.loop-test.taken
     b.bit.result b.bit.ensures _ (ap (set l.loop.vector _) (unit_kept _ u)) in
     ⊎_elim
-    (λ w. rw w.1 (next 1 w.0.taken _ (unit-turned _ u) _ c.before.before.write-entry2.ensures))
+    (λ w. rw w.1 (next 1 w.0.taken _ (unit_turned _ u) _ c.before.before.write-entry2.ensures))
     (λ w. rw w.1 (next 0 (omega (arith, (read b).place, w.0.left)) _ (unit_kept _ u) _ c.before.before.write-entry2.ensures))
     (filled c).before.if1.branch
 
@@ -188,14 +188,14 @@ same_length : tie.Need-same-length invariant-loop decreases-loop
 same_length c = c.before.loop.invariant.blocking.long ∙ search rules
 
 returns : tie.Need-returns invariant-loop decreases-loop
-unfolding walkState
+unfolding walk_state
 returns c =
     let l = c.before in
     let s = entered l in
     let eight : length s.args.w.signs ≡ 8 = search rules in
     walked_end s.pre.0 s.args.r _ s.args.at l.loop.invariant (search rules) eight s.args.out.now
     (l.before.before.before.write-entry.ensures
-    ∙ ap (λ h. sets s.args.out.now s.args.at (entryBytes (entry_at s.args.w.d h h (replicate 8 (pos 0)))))
+    ∙ ap (λ h. sets s.args.out.now s.args.at (entry_bytes (entry_at s.args.w.d h h (replicate 8 (pos 0)))))
     (counted l.before).ones_in_lem.ensures)
 
 pub write-block-spec : {M : Type 1} → statement M

@@ -10,8 +10,8 @@ use lib.ListN.{length, get_or, length-set}
 use mir.Facts.{to_z-of_z}
 use mir.Syntax.{w8}
 use mir.Val.{SFits}
-use Rattle.ladder.specs.Trace.{signedByte}
-use Rattle.trace.proofs.Entries.{Writing, writing_start, writing-next, writing-end, entry-written}
+use Rattle.ladder.specs.Trace.{signed_byte}
+use Rattle.trace.proofs.Entries.{Writing, writing_start, writing_next, writing_end, entry_written}
 use Rattle.trace.proofs.entry.write_entry.Statement.{statement}
 use Rattle.trace.proofs.entry.write_entry.Tie as tie
 
@@ -74,8 +74,8 @@ loop-again c =
     let a = c.before.before.before.before.before.args in
     let eight : length a.t4 ≡ 8 = search rules in
     let small : SFits w8 (get_or a.t4 c.before.before.before.loop.j (pos 0)) = search rules in
-    writing-next a.d a.t4 (omega arith) a.at _ c.before.before.before.loop.invariant (search rules) _
-    (c.signed-byte.ensures ∙ ap signedByte (to_z-of_z small))
+    writing_next a.d a.t4 (omega arith) a.at _ c.before.before.before.loop.invariant (search rules) _
+    (c.signed-byte.ensures ∙ ap signed_byte (to_z-of_z small))
 
 same_length : tie.Need-same-length invariant-loop decreases-loop
 same_length c = c.before.loop.invariant.long ∙ simp length-set
@@ -84,8 +84,8 @@ returns : tie.Need-returns invariant-loop decreases-loop
 returns c =
     let a = c.before.before.before.args in
     let eight : length a.t4 ≡ 8 = search rules in
-    writing-end a.d a.t4 (omega arith) a.at _ c.before.loop.invariant (search rules)
-    ∙ entry-written a.out.now a.at a.x a.y _
+    writing_end a.d a.t4 (omega arith) a.at _ c.before.loop.invariant (search rules)
+    ∙ entry_written a.out.now a.at a.x a.y _
 
 pub write-entry-spec : {M : Type 1} → statement M
 write-entry-spec =

@@ -1,8 +1,8 @@
 -- `step_digits` meets its contract. The loop's invariant is `Pushing`: the order filled so far, and the digits of the columns in it.
 -- Assumes nothing.
 use Rattle.std.proofs.Common.{ℕ, ◌+◌, ◌-◌, ◌*◌, ◌<◌, ◌≤◌, get_or, sym, ◌∙◌, arith, rules}
-use Rattle.bits.proofs.Filling.{filling-start, filling-room, filling-end}
-use Rattle.values.proofs.Pushing.{Pushing, pushing-start, place_read, place_inside, pushing-next, pushing-end}
+use Rattle.bits.proofs.Filling.{filling_start, filling_room, filling_end}
+use Rattle.values.proofs.Pushing.{Pushing, pushing_start, place_read, place_inside, pushing_next, pushing_end}
 use Rattle.values.proofs.digits.step_digits.Statement.{statement}
 use Rattle.values.proofs.digits.step_digits.Tie as tie
 
@@ -29,8 +29,8 @@ ones-in-requires c κs = search rules
 loop-holds : tie.Need-loop-init invariant-loop decreases-loop
 loop-holds c =
     let b = c.before.before in
-    pushing-start b.requires.0 b.requires.1.0 b.args.r b.args.held.now b.requires.1.1 c.ones_in_lem.result
-    (filling-start b.args.d b.args.t1 b.args.r b.requires.0 c.ones_in_lem.result c.ones_in_lem.ensures)
+    pushing_start b.requires.0 b.requires.1.0 b.args.r b.args.held.now b.requires.1.1 c.ones_in_lem.result
+    (filling_start b.args.d b.args.t1 b.args.r b.requires.0 c.ones_in_lem.result c.ones_in_lem.ensures)
 
 bit-requires : tie.Need-bit-requires invariant-loop decreases-loop
 bit-requires c κs = search rules
@@ -40,7 +40,7 @@ room : (c : tie.After-bit invariant-loop decreases-loop)
     → (c.bit.result ≤ (head c).loop.x) × (c.bit.result < 2) × (place c < 8) × ((head c).loop.k * (1 - c.bit.result) ≤ 8)
 room c =
     let p = (entry c).requires in
-    let at = filling-room (head c).loop.invariant.filling c.before.loop-test.true in
+    let at = filling_room (head c).loop.invariant.filling c.before.loop-test.true in
     let e = c.bit.ensures in
     let read = place_read (head c).loop.x (head c).loop.k c.bit.result (entry c).args.d (omega (arith, at, e)) (omega (arith, at, e)) (omega (arith, at, e)) in
     (omega (arith, at, e), omega (arith, at, e), omega (arith, read, p.0), omega (arith, read, p.0, c.before.loop-test.true))
@@ -100,7 +100,7 @@ loop-again : tie.Need-loop-preserved invariant-loop decreases-loop
 loop-again c =
     let t = c.before.before in
     let b = entry t in
-    pushing-next b.pre.0 b.pre.1.0 b.args.r (head t).loop.invariant t.before.loop-test.true t.bit.result t.bit.ensures
+    pushing_next b.pre.0 b.pre.1.0 b.args.r (head t).loop.invariant t.before.loop-test.true t.bit.result t.bit.ensures
     c.push.result c.push.ensures
 
 same_length : tie.Need-same-length invariant-loop decreases-loop
@@ -109,8 +109,8 @@ same_length c = c.before.loop.invariant.long ∙ sym c.before.before.before.befo
 returns : tie.Need-returns invariant-loop decreases-loop
 returns c =
     let b = c.before.before.before.before in (
-      filling-end b.args.d b.args.t1 b.args.r b.requires.0 c.before.loop.invariant.filling (search rules),
-      pushing-end b.requires.0 b.requires.1.0 b.args.r c.before.loop.invariant (search rules),
+      filling_end b.args.d b.args.t1 b.args.r b.requires.0 c.before.loop.invariant.filling (search rules),
+      pushing_end b.requires.0 b.requires.1.0 b.args.r c.before.loop.invariant (search rules),
     )
 
 pub step-digits-spec : {M : Type 1} → statement M

@@ -2,7 +2,7 @@
 -- Assumes nothing.
 use Rattle.std.proofs.Common.{◌≡◌, suc, ◌-◌, ◌≤◌, get_or, take, ap, ◌∙◌, arith}
 use Rattle.ladder.specs.Lists.{count}
-use Rattle.values.proofs.Above.{Above, above-few, above-next, above-none}
+use Rattle.values.proofs.Above.{Above, above_few, above_next, above_none}
 use Rattle.values.proofs.rows.columns_above.Statement.{statement}
 use Rattle.values.proofs.rows.columns_above.Tie as tie
 
@@ -18,7 +18,7 @@ column : (c : tie.In-loop invariant-loop decreases-loop)
 column c = c.before.before.requires.1 c.before.loop.i (omega arith)
 
 loop-holds : tie.Need-loop-init invariant-loop decreases-loop
-loop-holds c = (omega arith, above-none c.args.t1)
+loop-holds c = (omega arith, above_none c.args.t1)
 
 array-read-c : tie.Need-array-read-c invariant-loop decreases-loop
 array-read-c c = omega arith
@@ -39,7 +39,7 @@ add-above : tie.Need-overflow-add-above invariant-loop decreases-loop
 add-above c =
     let b = c.before in
     let o = b.before.args.t1 in
-    omega (arith, above-few o b.loop.above b.loop.i (get_or o b.loop.i 0 - 1) b.loop.invariant.1 (omega (arith, column c)))
+    omega (arith, above_few o b.loop.above b.loop.i (get_or o b.loop.i 0 - 1) b.loop.invariant.1 (omega (arith, column c)))
 
 mul-above-2 : tie.Need-overflow-mul-above-2 invariant-loop decreases-loop
 mul-above-2 c = omega (arith, column c)
@@ -56,7 +56,7 @@ loop-less c = omega arith
 loop-again : tie.Need-loop-preserved invariant-loop decreases-loop
 loop-again c =
     let b = c.before in
-    (omega arith, above-next b.before.args.t1 b.loop.above b.loop.i b.loop.invariant.1 (column c).0 (column c).1)
+    (omega arith, above_next b.before.args.t1 b.loop.above b.loop.i b.loop.invariant.1 (column c).0 (column c).1)
 
 returns : tie.Need-returns invariant-loop decreases-loop
 returns c =

@@ -1,6 +1,6 @@
 -- `raise_one` meets its contract: the part that is lent is the value.
 -- Assumes nothing.
-use Rattle.values.proofs.Raising.{not-raised, part_room, part-raised}
+use Rattle.values.proofs.Raising.{not_raised, part_room, part_raised}
 use Rattle.std.proofs.Common.{rules}
 use Rattle.values.proofs.rows.raise_one.Statement.{statement}
 use Rattle.values.proofs.rows.raise_one.Tie as tie
@@ -8,7 +8,7 @@ use Rattle.values.proofs.rows.raise_one.Tie as tie
 returns : tie.Need-returns
 returns c =
     let a = c.before.before.args in
-    not-raised a.k a.j a.digit a.above a.values.now c.if1.true
+    not_raised a.k a.j a.digit a.above a.values.now c.if1.true
 
 mul-from : tie.Need-overflow-mul-from
 mul-from c = search rules
@@ -41,7 +41,7 @@ returns-2 c =
     let t = c.before.before in
     let e = t.before.before in
     let b = e.before.before in
-    part-raised b.args.k b.args.j b.args.digit b.args.above b.args.values.now t.increment.new.0 b.requires e.if1.false
+    part_raised b.args.k b.args.j b.args.digit b.args.above b.args.values.now t.increment.new.0 b.requires e.if1.false
     t.increment.ensures
 
 pub raise-one-spec : {M : Type 1} → statement M

@@ -1,8 +1,8 @@
 -- `increment` meets its contract: the words passed were full and are 0, and the one is owed to the next word.
 -- Assumes nothing.
 use Rattle.std.proofs.Common.{◌≡◌, ℕ, ◌+◌, ◌-◌, ◌*◌, ◌^◌, ◌<◌, ◌≤◌, length, get_or, set, sym, refl, ap, ◌∙◌, arith, length-set, rules}
-use Rattle.ladder.proofs.Numbers.{wordsOf-numberOf}
-use Rattle.values.proofs.Words.{words-set, carry-ends, carry-on}
+use Rattle.ladder.proofs.Numbers.{words_of-number_of}
+use Rattle.values.proofs.Words.{words_set, carry_ends, carry_on}
 use Rattle.ladder.specs.Numbers.{number_of, words_of}
 use Rattle.values.proofs.stored.increment.Statement.{statement}
 use Rattle.values.proofs.stored.increment.Tie as tie
@@ -39,11 +39,11 @@ returns c =
     let b = c.before.before.before.before in
     let n = number_of b.before.before.args.words.now in
     let put = set b.loop.words b.loop.i c.before.wrapping-add-u64.result in
-    sym (wordsOf-numberOf (length b.before.before.args.words.now) put
+    sym (words_of-number_of (length b.before.before.args.words.now) put
     (length-set b.loop.words b.loop.i _ ∙ b.loop.invariant.1)
-    (words-set b.loop.words b.loop.i _ (omega arith) (omega (arith, c.before.wrapping-add-u64.ensures)) b.loop.invariant.2))
+    (words_set b.loop.words b.loop.i _ (omega arith) (omega (arith, c.before.wrapping-add-u64.ensures)) b.loop.invariant.2))
     ∙ ap (words_of (length b.before.before.args.words.now))
-    (carry-ends b.loop.words b.loop.i c.before.wrapping-add-u64.result n (omega arith) b.loop.invariant.2
+    (carry_ends b.loop.words b.loop.i c.before.wrapping-add-u64.result n (omega arith) b.loop.invariant.2
     c.before.wrapping-add-u64.ensures c.if1.true b.loop.invariant.3)
 
 add-i : tie.Need-overflow-add-i invariant-loop decreases-loop
@@ -59,8 +59,8 @@ loop-again c =
     let long = length-set b.loop.words b.loop.i c.before.wrapping-add-u64.result in (
       omega arith,
       long ∙ b.loop.invariant.1,
-      words-set b.loop.words b.loop.i _ (omega arith) (omega (arith, c.before.wrapping-add-u64.ensures)) b.loop.invariant.2,
-      carry-on b.loop.words b.loop.i c.before.wrapping-add-u64.result n (omega arith) b.loop.invariant.2
+      words_set b.loop.words b.loop.i _ (omega arith) (omega (arith, c.before.wrapping-add-u64.ensures)) b.loop.invariant.2,
+      carry_on b.loop.words b.loop.i c.before.wrapping-add-u64.result n (omega arith) b.loop.invariant.2
           c.before.wrapping-add-u64.ensures c.if1.false b.loop.invariant.3,
     )
 

@@ -1,7 +1,7 @@
 -- `store_words` meets its contract: one store a value, each at its word.
 -- Assumes nothing.
 use Rattle.std.proofs.Common.{◌≡◌, ◌+◌, ◌-◌, ◌*◌, ◌<◌, ◌≤◌, length, get_or, set, ap, ◌∙◌, arith, rules}
-use Rattle.values.proofs.Words.{word-inside, length-stored, stored_next, stored-none}
+use Rattle.values.proofs.Words.{word_inside, length-stored, stored_next, stored_none}
 use Rattle.values.specs.Inner.{stored}
 use Rattle.values.proofs.stored.store_words.Statement.{statement}
 use Rattle.values.proofs.stored.store_words.Tie as tie
@@ -15,10 +15,10 @@ decreases-loop held d k w values₀ j₀ values j = d - j
 -- Word w of value j lies in the buffer.
 inside : (c : tie.In-loop invariant-loop decreases-loop)
     → let a = c.before.before.args in c.before.loop.j * a.k + a.w < a.d * a.k
-inside c = let a = c.before.before.args in word-inside c.before.loop.j a.k a.w a.d (omega arith) (omega arith)
+inside c = let a = c.before.before.args in word_inside c.before.loop.j a.k a.w a.d (omega arith) (omega arith)
 
 loop-holds : tie.Need-loop-init invariant-loop decreases-loop
-loop-holds c = (omega arith, stored-none c.args.k c.args.w c.args.held.now c.args.values.now)
+loop-holds c = (omega arith, stored_none c.args.k c.args.w c.args.held.now c.args.values.now)
 
 mul-values : tie.Need-overflow-mul-values invariant-loop decreases-loop
 mul-values c = omega arith

@@ -2,9 +2,9 @@
 -- Assumes nothing.
 use mathlib.Core.Path.{sym}
 use borrow.Author.Tests.{lt-ltb, le-ltb}
-use Rattle.walk.proofs.Judged.{no-high-bits, high_bits}
-use Rattle.ladder.specs.Refusals.{stepShape}
-use Rattle.refuse.proofs.Laws.{unless-yes, unless-no}
+use Rattle.walk.proofs.Judged.{no_high_bits, high_bits}
+use Rattle.ladder.specs.Refusals.{step_shape}
+use Rattle.refuse.proofs.Laws.{unless_yes, unless_no}
 use borrow.Author.Rules.{rules}
 use Rattle.walk.proofs.refusal.step_shape.Statement.{statement}
 use Rattle.walk.proofs.refusal.step_shape.Tie as tie
@@ -13,12 +13,12 @@ shr-if1 : tie.Need-overflow-shr-if1
 shr-if1 c = search rules
 
 returns : tie.Need-returns
-unfolding stepShape
-returns c = sym (unless-yes _ _ (lt-ltb _ _ (no-high-bits _ _ c.if1.true)))
+unfolding step_shape
+returns c = sym (unless_yes _ _ (lt-ltb _ _ (no_high_bits _ _ c.if1.true)))
 
 returns-2 : tie.Need-returns-2
-unfolding stepShape
-returns-2 c = sym (unless-no _ _ (le-ltb _ _ (high_bits _ _ c.if1.false)))
+unfolding step_shape
+returns-2 c = sym (unless_no _ _ (le-ltb _ _ (high_bits _ _ c.if1.false)))
 
 pub step-shape-spec : {M : Type 1} → statement M
 step-shape-spec = tie.close (tie.spec shr-if1 returns returns-2)

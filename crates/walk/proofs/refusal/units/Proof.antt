@@ -11,7 +11,7 @@ use mir.Facts.{to_z-of_z}
 use mir.Syntax.{w8}
 use mir.Val.{SFits}
 use Rattle.ladder.specs.Refusals.{is_unit}
-use Rattle.ladder.proofs.Tests.{isUnit-says, allUnits-says, says-yes, says-no, says-true, says-false}
+use Rattle.ladder.proofs.Tests.{is_unit_says, all_units_says, says_yes, says_no, says_true, says_false}
 use Rattle.ladder.specs.Matrix.{IsUnit, Units}
 use borrow.Author.Rules.{rules}
 use Rattle.walk.proofs.refusal.units.Statement.{statement}
@@ -37,8 +37,8 @@ returns c =
     let l = c.before.before.before.before in
     let a = l.before.args in
     let small : SFits w8 (get_or a.t2 l.loop.j (pos 0)) = search rules in
-    says-no (allUnits-says a.d a.t2)
-    (λ u. says-false (isUnit-says _)
+    says_no (all_units_says a.d a.t2)
+    (λ u. says_false (is_unit_says _)
     (sym (c.before.is-unit.ensures ∙ ap is_unit (to_z-of_z small)) ∙ not-true _ c.if1.true) (u l.loop.j (search rules)))
 
 add-j : tie.Need-overflow-add-j invariant-loop decreases-loop
@@ -54,13 +54,13 @@ loop-again c =
     let small : SFits w8 (get_or a.t2 l.loop.j (pos 0)) = search rules in (
       omega arith,
       below_more (λ j. IsUnit (get_or a.t2 j (pos 0))) _ l.loop.invariant.1
-          (says-true (isUnit-says _) (sym (c.before.is-unit.ensures ∙ ap is_unit (to_z-of_z small)) ∙ not-false _ c.if1.false)),
+          (says_true (is_unit_says _) (sym (c.before.is-unit.ensures ∙ ap is_unit (to_z-of_z small)) ∙ not-false _ c.if1.false)),
     )
 
 returns-2 : tie.Need-returns-2 invariant-loop decreases-loop
 returns-2 c =
     let a = c.before.before.args in
-    says-yes (allUnits-says a.d a.t2) (λ j h. c.before.loop.invariant.1 j (omega arith))
+    says_yes (all_units_says a.d a.t2) (λ j h. c.before.loop.invariant.1 j (omega arith))
 
 pub units-spec : {M : Type 1} → statement M
 units-spec =

@@ -5,9 +5,9 @@ use native.Mathlib.Omega.{arith}
 use borrow.Author.Tests.{not-true, not-false}
 use lib.ListN.{length}
 use lib.Seq.{length-take-le}
-use Rattle.refuse.proofs.Laws.{unless-yes, unless-no}
-use Rattle.walk.specs.WalkState.{walkState}
-use Rattle.walk.proofs.Judged.{order-fails, units-fail, rest-decides}
+use Rattle.refuse.proofs.Laws.{unless_yes, unless_no}
+use Rattle.walk.specs.WalkState.{walk_state}
+use Rattle.walk.proofs.Judged.{order_fails, units_fail, rest_decides}
 use borrow.Author.Rules.{rules}
 use Rattle.walk.proofs.refusal.walk_order.Statement.{statement}
 use Rattle.walk.proofs.refusal.walk_order.Tie as tie
@@ -28,21 +28,21 @@ arrangement-requires : tie.Need-arrangement-requires
 arrangement-requires c κs = search rules
 
 returns : tie.Need-returns
-unfolding walkState
+unfolding walk_state
 returns c =
     let s = c.before.before.before.before.before in
     let w = s.args.w in
-    order-fails (walkState w) (sym c.before.arrangement.ensures ∙ not-true _ c.if1.true)
+    order_fails (walk_state w) (sym c.before.arrangement.ensures ∙ not-true _ c.if1.true)
 
 units-requires : tie.Need-units-requires
 units-requires c κs = search rules
 
 returns-2 : tie.Need-returns-2
-unfolding walkState
+unfolding walk_state
 returns-2 c =
     let b = c.before.before in
     let w = b.before.before.before.before.before.args.w in
-    units-fail (walkState w)
+    units_fail (walk_state w)
     (sym b.before.arrangement.ensures ∙ not-false _ b.if1.false)
     (sym c.before.units.ensures ∙ not-true _ c.if2.true)
 
@@ -50,24 +50,24 @@ zeros-past-requires : tie.Need-zeros-past-requires
 zeros-past-requires c κs = search rules
 
 returns-3 : tie.Need-returns-3
-unfolding walkState
+unfolding walk_state
 returns-3 c =
     let u = c.before.before in
     let b = u.before.before in
     let w = b.before.before.before.before.before.args.w in
-    sym (unless-no _ 5 (sym c.before.zeros-past.ensures ∙ not-true _ c.if3.true))
-    ∙ rest-decides (walkState w)
+    sym (unless_no _ 5 (sym c.before.zeros-past.ensures ∙ not-true _ c.if3.true))
+    ∙ rest_decides (walk_state w)
     (sym b.before.arrangement.ensures ∙ not-false _ b.if1.false)
     (sym u.before.units.ensures ∙ not-false _ u.if2.false)
 
 returns-4 : tie.Need-returns-4
-unfolding walkState
+unfolding walk_state
 returns-4 c =
     let u = c.before.before in
     let b = u.before.before in
     let w = b.before.before.before.before.before.args.w in
-    sym (unless-yes _ 5 (sym c.before.zeros-past.ensures ∙ not-false _ c.if3.false))
-    ∙ rest-decides (walkState w)
+    sym (unless_yes _ 5 (sym c.before.zeros-past.ensures ∙ not-false _ c.if3.false))
+    ∙ rest_decides (walk_state w)
     (sym b.before.arrangement.ensures ∙ not-false _ b.if1.false)
     (sym u.before.units.ensures ∙ not-false _ u.if2.false)
 

@@ -9,9 +9,9 @@ use lib.ListN.{length, get_or}
 use mir.Facts.{sfits_lit}
 use mir.Syntax.{w8}
 use mir.Val.{SFits, of_z}
-use Rattle.ladder.proofs.Tests.{says-yes, says-no}
+use Rattle.ladder.proofs.Tests.{says_yes, says_no}
 use Rattle.bits.proofs.SmallSigns.{same_sign}
-use Rattle.walk.proofs.Judged.{Free, zeros-says, eight-seen}
+use Rattle.walk.proofs.Judged.{Free, zeros_says, eight_seen}
 use borrow.Author.Rules.{rules}
 use Rattle.walk.proofs.refusal.zeros_past.Statement.{statement}
 use Rattle.walk.proofs.refusal.zeros_past.Tie as tie
@@ -32,7 +32,7 @@ returns : tie.Need-returns invariant-loop decreases-loop
 returns c =
     let l = c.before.before in
     let a = l.before.args in
-    says-no (zeros-says a.d a.t2 a.t3) (λ f. c.if1.true (f l.loop.k l.loop.invariant.0).0)
+    says_no (zeros_says a.d a.t2 a.t3) (λ f. c.if1.true (f l.loop.k l.loop.invariant.0).0)
 
 array-copy-out-if2 : tie.Need-array-copy-out-if2 invariant-loop decreases-loop
 array-copy-out-if2 c = search rules
@@ -41,7 +41,7 @@ returns-2 : tie.Need-returns-2 invariant-loop decreases-loop
 returns-2 c =
     let l = c.before.before.before.before in
     let a = l.before.args in
-    says-no (zeros-says a.d a.t2 a.t3) (λ f. c.if2.true (ap (of_z w8) (f l.loop.k l.loop.invariant.0).1))
+    says_no (zeros_says a.d a.t2 a.t3) (λ f. c.if2.true (ap (of_z w8) (f l.loop.k l.loop.invariant.0).1))
 
 add-k : tie.Need-overflow-add-k invariant-loop decreases-loop
 add-k c = search rules
@@ -64,7 +64,7 @@ returns-3 c =
     let a = c.before.before.args in
     let order : length a.t2 ≡ 8 = search rules in
     let signs : length a.t3 ≡ 8 = search rules in
-    says-yes (zeros-says a.d a.t2 a.t3) (eight-seen a.d _ a.t2 a.t3 order signs c.loop-test.false c.before.loop.invariant.1)
+    says_yes (zeros_says a.d a.t2 a.t3) (eight_seen a.d _ a.t2 a.t3 order signs c.loop-test.false c.before.loop.invariant.1)
 
 pub zeros-past-spec : {M : Type 1} → statement M
 zeros-past-spec =
