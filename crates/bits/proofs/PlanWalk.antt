@@ -39,8 +39,8 @@ columns_of {d} {S} a rest =
     }
 
 module _ (p : Plan) (ok : Accepted p) where
-  signs-unit : (s : ℕ) (rest : List ℤ) → Units p.d (signs_in p s ++ rest)
-  signs-unit s rest j h =
+  signs_unit : (s : ℕ) (rest : List ℤ) → Units p.d (signs_in p s ++ rest)
+  signs_unit s rest j h =
       let B = matrix_in p s in
       let many : length (signs_in p s) ≡ p.d = ap length (sym (signs_in_lem p ok s)) ∙ length-signs_of p.d B in
       subst IsUnit
@@ -55,7 +55,7 @@ module _ (p : Plan) (ok : Accepted p) where
     low = ok.d_low;
     high = ok.d_high;
     order = columns_of (state_in p ok s).order (replicate (8 - p.d) 0);
-    signs = signs-unit s (replicate (8 - p.d) (pos 0));
+    signs = signs_unit s (replicate (8 - p.d) (pos 0));
   }
 
   pub ready_start : Ready (walk_of p.d (start_order p) (start_signs p.d))

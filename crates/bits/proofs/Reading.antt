@@ -31,8 +31,8 @@ second_of_two hi lo i small h =
 
 module _ (bytes : List ℕ) (hi lo q : ℕ) (is-high : hi ≡ get_or bytes q 0) (is-low : lo ≡ get_or bytes (q + 1) 0) (small : lo < 256) where
   -- So it is bit i of the bytes from byte q on.
-  bit-of-two : (i : ℕ) → i < 16 → (hi * 256 + lo) / 2 ^ (15 - i) % 2 ≡ bit_at bytes (8 * q + i)
-  bit-of-two i h = go (dec_lt i 8)
+  bit_of_two : (i : ℕ) → i < 16 → (hi * 256 + lo) / 2 ^ (15 - i) % 2 ≡ bit_at bytes (8 * q + i)
+  bit_of_two i h = go (dec_lt i 8)
     where
       go : Dec (i < 8) → (hi * 256 + lo) / 2 ^ (15 - i) % 2 ≡ bit_at bytes (8 * q + i)
       go (yes l) =
@@ -61,5 +61,5 @@ module _ (bytes : List ℕ) (hi lo q : ℕ) (is-high : hi ≡ get_or bytes q 0) 
           sym (low_bit ((hi * 256 + lo) / 2 ^ (16 - first - d)) d (d - suc k) (omega arith))
           ∙ ap (λ m. m % 2) (shr-shr (hi * 256 + lo) (16 - first - d) (d - suc k))
           ∙ ap (λ i. (hi * 256 + lo) / 2 ^ i % 2) place
-          ∙ bit-of-two (first + k) (omega arith)
+          ∙ bit_of_two (first + k) (omega arith)
           ∙ ap (bit_at bytes) n

@@ -14,7 +14,7 @@ use Rattle.ladder.specs.Numbers.{bits_at}
 use Rattle.ladder.specs.Lists.{ones}
 use Rattle.ladder.specs.Matrix.{Arrangement, order_from, step_order, turn, step_signs, IsUnit, Units, order_after, signs_after}
 use Rattle.ladder.specs.Walk.{Walk, bits_of, walk_of, order_of, walk_signs, step_walk}
-use Rattle.ladder.proofs.Lists.{ones_le, get_d_map}
+use Rattle.ladder.proofs.Lists.{ones_le, get_or-map}
 use Rattle.ladder.proofs.Step.{length-step_order}
 use Rattle.ladder.proofs.Order.{place_of, arrangement_step}
 use Rattle.ladder.proofs.Tests.{units_long}
@@ -30,10 +30,10 @@ order_from-suc : (S : List ℕ) (x y : ℕ) (r : List ℕ) → ones r ≤ x → 
 unfolding order_from ones
 order_from-suc S x y [] o h l = refl
 order_from-suc S x y (zero ∷ r) o h l =
-    ap₂ (λ j rest. j ∷ rest) (get_d_map suc S y 0 0 (omega (arith, ones_le r)))
+    ap₂ (λ j rest. j ∷ rest) (get_or-map suc S y 0 0 (omega (arith, ones_le r)))
     (order_from-suc S x (suc y) r o h (omega (arith, ones_le r)))
 order_from-suc S x y (suc b ∷ r) o h l =
-    ap₂ (λ j rest. j ∷ rest) (get_d_map suc S (pred x) 0 0 (omega arith))
+    ap₂ (λ j rest. j ∷ rest) (get_or-map suc S (pred x) 0 0 (omega arith))
     (order_from-suc S (pred x) y r (omega arith) (omega arith) (omega arith))
 
 pub step_order-suc : (S r : List ℕ) → length S ≡ length r → step_order (map suc S) r ≡ map suc (step_order S r)
@@ -45,17 +45,17 @@ module _ {d : ℕ} {order : List ℕ} (a : Columns d order) (r : List ℕ) (long
   pub places_step : step_order (take d order) r ≡ map suc (step_order (map pred (take d order)) r)
   places_step = ap (λ S. step_order S r) a.counted ∙ step_order-suc (map pred (take d order)) r (a.columns.long ∙ sym long)
 
-  first-places : (rest : List ℕ) → take d (step_order (take d order) r ++ rest) ≡ step_order (take d order) r
-  first-places rest = take_at (step_order (take d order) r) rest d (length-step_order (take d order) r ∙ long)
+  first_places : (rest : List ℕ) → take d (step_order (take d order) r ++ rest) ≡ step_order (take d order) r
+  first_places rest = take_at (step_order (take d order) r) rest d (length-step_order (take d order) r ∙ long)
 
   pub columns_after : (rest : List ℕ) → map pred (take d (step_order (take d order) r ++ rest)) ≡ step_order (map pred (take d order)) r
-  columns_after rest = ap (map pred) (first-places rest ∙ places_step) ∙ pred-suc (step_order (map pred (take d order)) r)
+  columns_after rest = ap (map pred) (first_places rest ∙ places_step) ∙ pred-suc (step_order (map pred (take d order)) r)
 
   -- It is an arrangement again.
   pub columns_step : (rest : List ℕ) → Columns d (step_order (take d order) r ++ rest)
   columns_step rest = record {
     columns = subst (Arrangement d) (sym (columns_after rest)) (arrangement_step a.columns r long);
-    counted = first-places rest ∙ places_step ∙ ap (map suc) (sym (columns_after rest));
+    counted = first_places rest ∙ places_step ∙ ap (map suc) (sym (columns_after rest));
   }
 
 -- ---- signs
@@ -65,20 +65,20 @@ unit_turns zero s u = u
 unit_turns (suc b) s u = ⊎_elim (λ e. inr (ap neg_ℤ e)) (λ e. inl (ap neg_ℤ e)) u
 
 module _ (d : ℕ) (signs : List ℤ) (u : Units d signs) {S : List ℕ} (a : Arrangement d S) (r : List ℕ) (long : length r ≡ d) where
-  first-signs : length (take d signs) ≡ d
-  first-signs = length-take-le d signs (units_long d signs u)
+  first_signs : length (take d signs) ≡ d
+  first_signs = length-take-le d signs (units_long d signs u)
 
   -- The turned signs are units again.
   pub units_step : (rest : List ℤ) → Units d (turn (take d signs) S r ++ rest)
   units_step rest j h =
       let p = place_of a j h in
-      let many : length (turn (take d signs) S r) ≡ d = length-turn (take d signs) S r ∙ first-signs in
+      let many : length (turn (take d signs) S r) ≡ d = length-turn (take d signs) S r ∙ first_signs in
       let c = get_or S p.0 0 in
       subst IsUnit
       (sym (get_or-append (turn (take d signs) S r) rest (pos 0) j (omega (arith, many))
       ∙ ap (λ i. get_or (turn (take d signs) S r) i (pos 0)) (sym p.2)
       ∙ turn_at (take d signs) S r p.0 (a.long ∙ sym long) (omega (arith, p.1, a.long)) (a.once c (omega (arith, p.2)))
-      (omega (arith, p.2, first-signs))))
+      (omega (arith, p.2, first_signs))))
       (unit_turns (get_or r p.0 0) (get_or (take d signs) c (pos 0))
       (subst IsUnit (sym (get_or-take d signs c (pos 0) (omega (arith, p.2)))) (u c (omega (arith, p.2)))))
 

@@ -88,18 +88,18 @@ module _ {d : ℕ} {order : List ℕ} (small : d ≤ 8) (a : Columns d order) (s
       after : List ℤ
       after = turn (take d signs) S (bits_of d n)
 
-      signs-long : length (take d signs) ≡ d
-      signs-long = length-take-le d signs (omega arith)
+      signs_long : length (take d signs) ≡ d
+      signs_long = length-take-le d signs (omega arith)
 
       many : length after ≡ d
-      many = length-turn (take d signs) S (bits_of d n) ∙ signs-long
+      many = length-turn (take d signs) S (bits_of d n) ∙ signs_long
 
       placed : (m : ℕ) → m < d → get_or new (column d order m) (pos 0) ≡ get_or after (column d order m) (pos 0)
       placed m b =
           t.filled m (omega arith)
           ∙ ap (turned (get_or (bits_of d n) m 0)) (sym (get_or-take d signs (column d order m) (pos 0) (a.columns.inside m b)))
           ∙ sym (turn_at (take d signs) S (bits_of d n) m (a.columns.long ∙ sym (length-bits_of d n)) (omega (arith, a.columns.long))
-          (a.columns.once (column d order m) (a.columns.inside m b)) (omega (arith, signs-long, a.columns.inside m b)))
+          (a.columns.once (column d order m) (a.columns.inside m b)) (omega (arith, signs_long, a.columns.inside m b)))
 
       at : (i : ℕ) → Dec (i < d) → get_or new i (pos 0) ≡ get_or (after ++ replicate (8 - d) (pos 0)) i (pos 0)
       at i (yes l) =

@@ -16,27 +16,27 @@ use Rattle.bits.specs.WalkBlock.{filled, walk_block}
 
 module _ {d : ℕ} {B : Matrix} {S : List ℕ} (M : StateMatrix d B S) (r : List ℕ) (long : length r ≡ d) where
   -- The additions from addition k on.
-  filled-from : (m k : ℕ) → m + k ≡ d
+  filled_from : (m k : ℕ) → m + k ≡ d
       → filled (vector_of d B (operation r k)) (signs_of d B) (drop k (step_order S r)) (drop k (additions r))
       ≡ map (entry_of d B) (drop k (additions r))
   unfolding filled entry_of operations
-  filled-from zero k e =
+  filled_from zero k e =
       ap₂ (λ T ps. filled (vector_of d B (operation r k)) (signs_of d B) T ps)
       (drop_of_length-le (step_order S r) {i = k} (omega (arith, length-step_order S r)))
       (drop_of_length-le (additions r) {i = k} (omega (arith, length-additions r)))
       ∙ sym (ap (map (entry_of d B)) (drop_of_length-le (additions r) {i = k} (omega (arith, length-additions r))))
-  filled-from (suc m) k e =
+  filled_from (suc m) k e =
       let p = get_or (additions r) k no_pair in
       let places = drop-cons (step_order S r) k 0 (omega (arith, length-step_order S r)) in
       let pairs = drop-cons (additions r) k no_pair (omega (arith, length-additions r)) in
       ap₂ (λ T ps. filled (vector_of d B (operation r k)) (signs_of d B) T ps) places pairs
       ∙ ap (λ v. record { x = p.x; y = p.y; vector = v }
       ∷ filled v (signs_of d B) (drop (suc k) (step_order S r)) (drop (suc k) (additions r))) (sym (vector_filled M r long k (omega arith)))
-      ∙ ap (λ es. entry_of d B p ∷ es) (filled-from m (suc k) (omega arith))
+      ∙ ap (λ es. entry_of d B p ∷ es) (filled_from m (suc k) (omega arith))
       ∙ sym (ap (map (entry_of d B)) pairs)
 
-  zeros-first : (i : ℕ) → replicate d (pos 0) ≡ vector_of d B (record { x = i; y = i })
-  zeros-first i =
+  zeros_first : (i : ℕ) → replicate d (pos 0) ≡ vector_of d B (record { x = i; y = i })
+  zeros_first i =
       ext_get_or (pos 0) (replicate d (pos 0)) (vector_of d B (record { x = i; y = i }))
       (length-replicate d (pos 0) ∙ sym (length_vector d B (record { x = i; y = i })))
       (λ j l.
@@ -47,5 +47,5 @@ module _ {d : ℕ} {B : Matrix} {S : List ℕ} (M : StateMatrix d B S) (r : List
   pub walk_block_lem : walk_block d (signs_of d B) (step_order S r) r ≡ block d B r
   unfolding walk_block block operations entry_of
   walk_block_lem =
-      ap (λ v. record { x = ones r; y = ones r; vector = v } ∷ filled v (signs_of d B) (step_order S r) (additions r)) (zeros-first (ones r))
-      ∙ ap (λ es. entry_of d B (record { x = ones r; y = ones r }) ∷ es) (filled-from d 0 (omega arith))
+      ap (λ v. record { x = ones r; y = ones r; vector = v } ∷ filled v (signs_of d B) (step_order S r) (additions r)) (zeros_first (ones r))
+      ∙ ap (λ es. entry_of d B (record { x = ones r; y = ones r }) ∷ es) (filled_from d 0 (omega arith))

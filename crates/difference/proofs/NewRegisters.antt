@@ -42,9 +42,9 @@ module _ {m d : ℕ} {signs : List ℤ} {order elements old : List ℕ} (asks : 
   register = difference_of m elements old
 
   -- The register of an entry whose row x there is.
-  register-at : (x y : ℕ) (v : List ℤ) → x ≤ d → register (entry_at d x y v) ≡ difference_add m elements (get_or old x 0) (take d v)
+  register_at : (x y : ℕ) (v : List ℤ) → x ≤ d → register (entry_at d x y v) ≡ difference_add m elements (get_or old x 0) (take d v)
   unfolding difference_of
-  register-at x y v h = refl
+  register_at x y v h = refl
 
   -- The row that is doubled is a row, and its register an element.
   pub doubled_room : (x : ℕ) → x ≡ ones (bits_of d n) → (x ≤ d) × (get_or old x 0 < modulus m)
@@ -73,7 +73,7 @@ module _ {m d : ℕ} {signs : List ℤ} {order elements old : List ℕ} (asks : 
       same : a ≡ register (entry_at d (ones (bits_of d n)) (ones (bits_of d n)) (replicate 8 (pos 0)))
       same =
           f ∙ ap (λ y. (get_or old y 0 + get_or old y 0) % modulus m) e
-          ∙ sym (register-at h h (replicate 8 (pos 0)) (doubled_room h refl).0
+          ∙ sym (register_at h h (replicate 8 (pos 0)) (doubled_room h refl).0
           ∙ doubled_zeros m elements (get_or old h 0) d 8 asks.d_high)
 
   module _ {new : List ℕ} {v : List ℤ} {x k : ℕ} (s : Making m d signs order n elements old new v x k) (h : k < d)
@@ -83,8 +83,8 @@ module _ {m d : ℕ} {signs : List ℤ} {order elements old : List ℕ} (asks : 
     making_room = omega (arith, s.left, ones_left d n k h, ones_room d n (k + 1) (omega arith))
 
     -- Its vector is small again.
-    more-small : (j : ℕ) → j < d → IsSmall (get_or (more d signs asks.columns n v k) j (pos 0))
-    more-small j l = go (ℕ_discrete j i)
+    more_small : (j : ℕ) → j < d → IsSmall (get_or (more d signs asks.columns n v k) j (pos 0))
+    more_small j l = go (ℕ_discrete j i)
       where
         i : ℕ
         i = get_or order k 0 - 1
@@ -108,22 +108,22 @@ module _ {m d : ℕ} {signs : List ℤ} {order elements old : List ℕ} (asks : 
       wide =
           let eight : length v' ≡ 8 = ap length q ∙ length-set v (get_or order k 0 - 1) _ ∙ s.eight in
           length-take-le d v' (omega (arith, asks.d_high)) ∙ sym asks.long;
-      small = λ j l. rw (get_or-take d v' j (pos 0) (omega (arith, asks.long)), q) (more-small j (omega (arith, asks.long)));
+      small = λ j l. rw (get_or-take d v' j (pos 0) (omega (arith, asks.long)), q) (more_small j (omega (arith, asks.long)));
     }
 
-    making-more : (b : ℕ) → b ≡ difference_add m elements (get_or old x' 0) (take d (more d signs asks.columns n v k))
+    making_more : (b : ℕ) → b ≡ difference_add m elements (get_or old x' 0) (take d (more d signs asks.columns n v k))
         → Making m d signs order n elements old (set new (k + 1) b) (more d signs asks.columns n v k) x' (k + 1)
-    making-more b w =
+    making_more b w =
         let u = more d signs asks.columns n v k in
         let made : b ≡ register (entry_at d x' (x' + suc k) u) =
         w
-        ∙ sym (register-at x' (x' + suc k) u (omega (arith, making_room))) in
+        ∙ sym (register_at x' (x' + suc k) u (omega (arith, making_room))) in
         let later = map register (rest d signs order n u x' (suc k)) in
         record {
           within = omega arith;
           left = omega (arith, s.left, ones_left d n k h);
           eight = length-set v (get_or order k 0 - 1) _ ∙ s.eight;
-          small = more-small;
+          small = more_small;
           nine = length-set new (k + 1) b ∙ s.nine;
           done =
               rw (add-one k)
@@ -139,7 +139,7 @@ module _ {m d : ℕ} {signs : List ℤ} {order elements old : List ℕ} (asks : 
         → (b : ℕ) → b ≡ difference_add m elements (get_or old x' 0) (take d v')
         → Making m d signs order n elements old (set new (k + 1) b) v' x' (k + 1)
     making_next v' q b w =
-        rw q (making-more b (w ∙ ap (λ u. difference_add m elements (get_or old x' 0) (take d u)) q))
+        rw q (making_more b (w ∙ ap (λ u. difference_add m elements (get_or old x' 0) (take d u)) q))
 
   -- No addition left.
   pub making_end : {new : List ℕ} {v : List ℤ} {x k : ℕ} → Making m d signs order n elements old new v x k → d ≤ k

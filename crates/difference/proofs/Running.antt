@@ -82,8 +82,8 @@ module _ {m : ℕ} {w₀ : Walk} {l : ℕ} {bytes elements start : List ℕ} (as
 
       module _ (b : ReadBits d s bytes n) where
         -- The walk state after one step more.
-        walk-next : next ≡ walk_of d (order_after S r (suc s)) (signs_after d S r (suc s))
-        walk-next = e ∙ ap (λ v. step_walk v n) t.walk ∙ walk_on d S bytes s n arranged.long b
+        walk_next : next ≡ walk_of d (order_after S r (suc s)) (signs_after d S r (suc s))
+        walk_next = e ∙ ap (λ v. step_walk v n) t.walk ∙ walk_on d S bytes s n arranged.long b
 
         -- The step's entries are those that the matrix before it has.
         step_block : entries ≡ block d (matrix_after d S r s) (r s)
@@ -94,7 +94,7 @@ module _ {m : ℕ} {w₀ : Walk} {l : ℕ} {bytes elements start : List ℕ} (as
             ∙ signs_of_walk d (order_after S r s) (signs_after d S r s) (length-signs_after d S r s)
             ∙ sym (signs_after_lem arranged r (length-bits_at d bytes) s) in
             let after : map pred (take d next.order) ≡ order_after S r (suc s) =
-            ap (λ v. map pred (take d v.order)) walk-next
+            ap (λ v. map pred (take d v.order)) walk_next
             ∙ order_of_walk d (order_after S r (suc s)) (signs_after d S r (suc s))
             (length-order_after d S r arranged.long (length-bits_at d bytes) (suc s)) in
             ap₂ (λ σ T. walk_block d σ T (bits_of d n)) before after
@@ -110,7 +110,7 @@ module _ {m : ℕ} {w₀ : Walk} {l : ℕ} {bytes elements start : List ℕ} (as
           within = h;
           nine = nine;
           ready = subst Ready (sym e) (ready_step t.ready n);
-          walk = walk-next;
+          walk = walk_next;
           below = λ i q.
               rw (sym (get_or-take (suc d) new i 0 q), f) (registers_below m elements (take (suc d) regs) entries i);
           registers =

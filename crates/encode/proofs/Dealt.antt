@@ -13,7 +13,7 @@ use Rattle.ladder.specs.Lists.{tabulate}
 use Rattle.ladder.specs.Matrix.{Arrangement}
 use Rattle.ladder.specs.Encoding.{dealt, deal}
 use Rattle.ladder.specs.Walk.{bits_of}
-use Rattle.ladder.proofs.Lists.{length-tabulate, get_d_tabulate, get_d_map, map_same}
+use Rattle.ladder.proofs.Lists.{length-tabulate, get_or-tabulate, get_or-map, map_same}
 use Rattle.ladder.proofs.Encoding.{dealt_is}
 use Rattle.scalars.specs.Inner.{gathered}
 use Rattle.scalars.proofs.Gathered.{gathered_bit}
@@ -88,19 +88,19 @@ pub dealt_parities : (d : ℕ) (ks : List ℕ) → length ks ≡ d → dealt_by 
 unfolding dealt_by
 dealt_parities d ks e =
     ext_get_or 0 _ (map (λ n. n % 2) ks)
-    (length-map (tabulate d (λ j. j)) bit-of ∙ length-tabulate d (λ j. j) ∙ sym e ∙ sym (length-map ks (λ n. n % 2)))
-    (λ j h. at j (omega (arith, length-map (tabulate d (λ j. j)) bit-of, length-tabulate d (λ (j : ℕ). j))))
+    (length-map (tabulate d (λ j. j)) bit_of ∙ length-tabulate d (λ j. j) ∙ sym e ∙ sym (length-map ks (λ n. n % 2)))
+    (λ j h. at j (omega (arith, length-map (tabulate d (λ j. j)) bit_of, length-tabulate d (λ (j : ℕ). j))))
   where
-    bit-of : ℕ → ℕ
-    bit-of j = gathered ks 0 / 2 ^ j % 2
+    bit_of : ℕ → ℕ
+    bit_of j = gathered ks 0 / 2 ^ j % 2
 
-    at : (j : ℕ) → j < d → get_or (map bit-of (tabulate d (λ j. j))) j 0 ≡ get_or (map (λ n. n % 2) ks) j 0
+    at : (j : ℕ) → j < d → get_or (map bit_of (tabulate d (λ j. j))) j 0 ≡ get_or (map (λ n. n % 2) ks) j 0
     at j h =
-        get_d_map bit-of (tabulate d (λ j. j)) j 0 0 (omega (arith, length-tabulate d (λ (j : ℕ). j)))
-        ∙ ap bit-of (get_d_tabulate d (λ j. j) j 0 h)
+        get_or-map bit_of (tabulate d (λ j. j)) j 0 0 (omega (arith, length-tabulate d (λ (j : ℕ). j)))
+        ∙ ap bit_of (get_or-tabulate d (λ j. j) j 0 h)
         ∙ gathered_bit ks 0 j
         ∙ ap (λ n. n % 2) (div-one (get_or ks j 0))
-        ∙ sym (get_d_map (λ n. n % 2) ks j 0 0 (omega arith))
+        ∙ sym (get_or-map (λ n. n % 2) ks j 0 0 (omega arith))
 
 -- ---- columns counted from 1
 

@@ -24,8 +24,8 @@ module _ (T : List ℕ) (f i j : ℕ) (room : f + i < length T) where
   abbrev both : List ℕ
   both = set (set T f j) (f + i) j
 
-  in-front : take (suc f) both ≡ take f T ++ (j ∷ [])
-  in-front = go i room
+  in_front : take (suc f) both ≡ take f T ++ (j ∷ [])
+  in_front = go i room
     where
       go : (i : ℕ) → f + i < length T → take (suc f) (set (set T f j) (f + i) j) ≡ take f T ++ (j ∷ [])
       go zero h =
@@ -36,32 +36,32 @@ module _ (T : List ℕ) (f i j : ℕ) (room : f + i < length T) where
   front_kept : take f both ≡ take f T
   front_kept = take-set-le f (set T f j) (f + i) j (omega arith) ∙ take-set-le f T f j (omega arith)
 
-  back-kept : drop (suc (f + i)) both ≡ drop (suc (f + i)) T
-  back-kept =
+  back_kept : drop (suc (f + i)) both ≡ drop (suc (f + i)) T
+  back_kept =
       drop-set-lt (suc (f + i)) (set T f j) (f + i) j (omega arith) ∙ drop-set-lt (suc (f + i)) T f j (omega arith)
 
   at_back : drop (f + i) both ≡ j ∷ drop (suc (f + i)) T
   at_back =
       drop-cons both (f + i) 0 (omega (arith, length-set T f j, length-set (set T f j) (f + i) j))
-      ∙ ap₂ (λ a s. a ∷ s) (get_or-set_same (set T f j) (f + i) j 0 (omega (arith, length-set T f j))) back-kept
+      ∙ ap₂ (λ a s. a ∷ s) (get_or-set_same (set T f j) (f + i) j 0 (omega (arith, length-set T f j))) back_kept
 
-  ones-more : (S r : List ℕ) (b : ℕ) → b < 2 → take f T ≡ reverse (picked S r)
+  ones_more : (S r : List ℕ) (b : ℕ) → b < 2 → take f T ≡ reverse (picked S r)
       → take (f + b) both ≡ reverse (picked (j ∷ S) (b ∷ r))
   unfolding picked
-  ones-more S r zero h e = rw (add-zero f) (front_kept ∙ e)
-  ones-more S r (suc zero) h e =
+  ones_more S r zero h e = rw (add-zero f) (front_kept ∙ e)
+  ones_more S r (suc zero) h e =
       let one : f + 1 ≡ suc f = omega arith in
-      rw one (in-front ∙ ap (λ s. s ++ (j ∷ [])) e ∙ sym (reverse-cons j (picked S r)))
-  ones-more S r (suc (suc b)) h e = absurd (omega arith)
+      rw one (in_front ∙ ap (λ s. s ++ (j ∷ [])) e ∙ sym (reverse-cons j (picked S r)))
+  ones_more S r (suc (suc b)) h e = absurd (omega arith)
 
-  zeros-more : (S r : List ℕ) (b : ℕ) → b < 2 → drop (suc (f + i)) T ≡ passed S r
+  zeros_more : (S r : List ℕ) (b : ℕ) → b < 2 → drop (suc (f + i)) T ≡ passed S r
       → drop (f + b + i) both ≡ passed (j ∷ S) (b ∷ r)
   unfolding passed
-  zeros-more S r zero h e = rw (add-zero f) (at_back ∙ ap (λ s. j ∷ s) e)
-  zeros-more S r (suc zero) h e =
+  zeros_more S r zero h e = rw (add-zero f) (at_back ∙ ap (λ s. j ∷ s) e)
+  zeros_more S r (suc zero) h e =
       let one : f + 1 + i ≡ suc (f + i) = omega arith in
-      rw one (back-kept ∙ e)
-  zeros-more S r (suc (suc b)) h e = absurd (omega arith)
+      rw one (back_kept ∙ e)
+  zeros_more S r (suc (suc b)) h e = absurd (omega arith)
 
 -- ---- the pass
 
@@ -93,8 +93,8 @@ module _ (order : List ℕ) (d r : ℕ) (wide : d ≤ length order) where
       (take d (set (set out f (get_or order (left - 1) 0)) (f + (left - 1)) (get_or order (left - 1) 0)))
   one_more_filled out left f some inside room t = record {
     few = omega (arith, t.few);
-    ones = rw (stored, cut-S, cut-B) (ones-more T f i j (omega (arith, t.few, tall)) (drop left S) (drop left B) b (omega arith) t.ones);
-    zeros = rw (stored, cut-S, cut-B) (zeros-more T f i j (omega (arith, t.few, tall)) (drop left S) (drop left B) b (omega arith) (rw next t.zeros));
+    ones = rw (stored, cut_S, cut_B) (ones_more T f i j (omega (arith, t.few, tall)) (drop left S) (drop left B) b (omega arith) t.ones);
+    zeros = rw (stored, cut_S, cut_B) (zeros_more T f i j (omega (arith, t.few, tall)) (drop left S) (drop left B) b (omega arith) (rw next t.zeros));
   }
     where
       T : List ℕ
@@ -123,13 +123,13 @@ module _ (order : List ℕ) (d r : ℕ) (wide : d ≤ length order) where
       from : suc i ≡ left
       from = omega arith
 
-      cut-S : drop i S ≡ j ∷ drop left S
-      cut-S =
+      cut_S : drop i S ≡ j ∷ drop left S
+      cut_S =
           drop-cons S i 0 (omega (arith, long))
           ∙ ap₂ (λ a m. a ∷ drop m S) (get_or-take d order i 0 (omega arith)) from
 
-      cut-B : drop i B ≡ b ∷ drop left B
-      cut-B =
+      cut_B : drop i B ≡ b ∷ drop left B
+      cut_B =
           drop-cons B i 0 (omega (arith, length-bits_of d r))
           ∙ ap₂ (λ a m. a ∷ drop m B) (get_or-bits_of d r i (omega arith) ∙ ap (λ m. r / 2 ^ (d - m) % 2) from) from
 

@@ -14,39 +14,39 @@ module _ (f : ℕ → ℕ) where
   abbrev off : List ℕ → List ℕ
   off S = passed S (map f S)
 
-  on-append : (S T : List ℕ) → on (S ++ T) ≡ on S ++ on T
+  on_append : (S T : List ℕ) → on (S ++ T) ≡ on S ++ on T
   unfolding picked
-  on-append [] T = refl
-  on-append (j ∷ S) T = go (f j) (on-append S T)
+  on_append [] T = refl
+  on_append (j ∷ S) T = go (f j) (on_append S T)
     where
       go : (b : ℕ) → on (S ++ T) ≡ on S ++ on T → picked (j ∷ (S ++ T)) (b ∷ map f (S ++ T)) ≡ picked (j ∷ S) (b ∷ map f S) ++ on T
       go zero e = e
       go (suc b) e = ap (λ rest. j ∷ rest) e
 
-  off-append : (S T : List ℕ) → off (S ++ T) ≡ off S ++ off T
+  off_append : (S T : List ℕ) → off (S ++ T) ≡ off S ++ off T
   unfolding passed
-  off-append [] T = refl
-  off-append (j ∷ S) T = go (f j) (off-append S T)
+  off_append [] T = refl
+  off_append (j ∷ S) T = go (f j) (off_append S T)
     where
       go : (b : ℕ) → off (S ++ T) ≡ off S ++ off T → passed (j ∷ (S ++ T)) (b ∷ map f (S ++ T)) ≡ passed (j ∷ S) (b ∷ map f S) ++ off T
       go zero e = ap (λ rest. j ∷ rest) e
       go (suc b) e = e
 
-  on-reverse : (S : List ℕ) → on (reverse S) ≡ reverse (on S)
+  on_reverse : (S : List ℕ) → on (reverse S) ≡ reverse (on S)
   unfolding picked
-  on-reverse [] = refl
-  on-reverse (j ∷ S) =
-      ap on (reverse-cons j S) ∙ on-append (reverse S) (j ∷ []) ∙ ap (λ s. s ++ on (j ∷ [])) (on-reverse S) ∙ go (f j)
+  on_reverse [] = refl
+  on_reverse (j ∷ S) =
+      ap on (reverse-cons j S) ∙ on_append (reverse S) (j ∷ []) ∙ ap (λ s. s ++ on (j ∷ [])) (on_reverse S) ∙ go (f j)
     where
       go : (b : ℕ) → reverse (on S) ++ picked (j ∷ []) (b ∷ []) ≡ reverse (picked (j ∷ S) (b ∷ map f S))
       go zero = append-nil (reverse (on S))
       go (suc b) = sym (reverse-cons j (on S))
 
-  off-reverse : (S : List ℕ) → off (reverse S) ≡ reverse (off S)
+  off_reverse : (S : List ℕ) → off (reverse S) ≡ reverse (off S)
   unfolding passed
-  off-reverse [] = refl
-  off-reverse (j ∷ S) =
-      ap off (reverse-cons j S) ∙ off-append (reverse S) (j ∷ []) ∙ ap (λ s. s ++ off (j ∷ [])) (off-reverse S) ∙ go (f j)
+  off_reverse [] = refl
+  off_reverse (j ∷ S) =
+      ap off (reverse-cons j S) ∙ off_append (reverse S) (j ∷ []) ∙ ap (λ s. s ++ off (j ∷ [])) (off_reverse S) ∙ go (f j)
     where
       go : (b : ℕ) → reverse (off S) ++ passed (j ∷ []) (b ∷ []) ≡ reverse (passed (j ∷ S) (b ∷ map f S))
       go zero = sym (reverse-cons j (off S))
@@ -54,28 +54,28 @@ module _ (f : ℕ → ℕ) where
 
   -- P has only columns with bit 1, Q only such with bit 0.
   record Parted (P Q : List ℕ) : Type 0 where
-    onP : on P ≡ P
-    offP : off P ≡ []
-    onQ : on Q ≡ []
-    offQ : off Q ≡ Q
+    on_p : on P ≡ P
+    off_p : off P ≡ []
+    on_q : on Q ≡ []
+    off_q : off Q ≡ Q
 
   parted : (S : List ℕ) → Parted (on S) (off S)
   unfolding picked passed
-  parted [] = record { onP = refl; offP = refl; onQ = refl; offQ = refl }
+  parted [] = record { on_p = refl; off_p = refl; on_q = refl; off_q = refl }
   parted (j ∷ S) = go (f j) refl (parted S)
     where
       go : (b : ℕ) → f j ≡ b → Parted (on S) (off S) → Parted (picked (j ∷ S) (b ∷ map f S)) (passed (j ∷ S) (b ∷ map f S))
       go zero e p = record {
-        onP = p.onP;
-        offP = p.offP;
-        onQ = ap (λ b. picked (j ∷ off S) (b ∷ map f (off S))) e ∙ p.onQ;
-        offQ = ap (λ b. passed (j ∷ off S) (b ∷ map f (off S))) e ∙ ap (λ rest. j ∷ rest) p.offQ;
+        on_p = p.on_p;
+        off_p = p.off_p;
+        on_q = ap (λ b. picked (j ∷ off S) (b ∷ map f (off S))) e ∙ p.on_q;
+        off_q = ap (λ b. passed (j ∷ off S) (b ∷ map f (off S))) e ∙ ap (λ rest. j ∷ rest) p.off_q;
       }
       go (suc b) e p = record {
-        onP = ap (λ b. picked (j ∷ on S) (b ∷ map f (on S))) e ∙ ap (λ rest. j ∷ rest) p.onP;
-        offP = ap (λ b. passed (j ∷ on S) (b ∷ map f (on S))) e ∙ p.offP;
-        onQ = p.onQ;
-        offQ = p.offQ;
+        on_p = ap (λ b. picked (j ∷ on S) (b ∷ map f (on S))) e ∙ ap (λ rest. j ∷ rest) p.on_p;
+        off_p = ap (λ b. passed (j ∷ on S) (b ∷ map f (on S))) e ∙ p.off_p;
+        on_q = p.on_q;
+        off_q = p.off_q;
       }
 
   twice : (S : List ℕ) → rearrange (reverse (on S) ++ off S) (map f (reverse (on S) ++ off S)) ≡ on S ++ off S
@@ -83,11 +83,11 @@ module _ (f : ℕ → ℕ) where
   twice S =
       let p = parted S in
       ap₂ (λ s z. reverse s ++ z)
-      (on-append (reverse (on S)) (off S)
-      ∙ ap₂ (λ s z. s ++ z) (on-reverse (on S) ∙ ap reverse p.onP) p.onQ
+      (on_append (reverse (on S)) (off S)
+      ∙ ap₂ (λ s z. s ++ z) (on_reverse (on S) ∙ ap reverse p.on_p) p.on_q
       ∙ append-nil (reverse (on S)))
-      (off-append (reverse (on S)) (off S)
-      ∙ ap₂ (λ s z. s ++ z) (off-reverse (on S) ∙ ap reverse p.offP) p.offQ)
+      (off_append (reverse (on S)) (off S)
+      ∙ ap₂ (λ s z. s ++ z) (off_reverse (on S) ∙ ap reverse p.off_p) p.off_q)
       ∙ ap (λ s. s ++ off S) (reverse-reverse (on S))
 
 -- Columns rearranged twice, each time by the bits that n deals them, are parted and in their places.

@@ -36,8 +36,8 @@ module _ (p : Packing) (d r : ℕ) (bytes : List ℕ) (room : Room p d r bytes) 
       let e : p.held + d ≡ d + p.held = omega arith in
       rw (e, pow-add 2 d p.held) (digits_lt room.fits room.state.small)
 
-  filled-bits : bits_of (p.held + d) filled ≡ bits_of d r ++ bits_of p.held p.fill
-  filled-bits =
+  filled_bits : bits_of (p.held + d) filled ≡ bits_of d r ++ bits_of p.held p.fill
+  filled_bits =
       let e : p.held + d ≡ d + p.held = omega arith in
       ap (λ n. bits_of n filled) e ∙ bits_of-append d p.held r p.fill room.state.small
 
@@ -52,7 +52,7 @@ module _ (p : Packing) (d r : ℕ) (bytes : List ℕ) (room : Room p d r bytes) 
     state = record { few = h; small = filled_below; inside = room.state.inside };
     moved = omega arith;
     bits =
-        ap (λ s. s ++ bits_of_bytes (drop p.at bytes)) filled-bits
+        ap (λ s. s ++ bits_of_bytes (drop p.at bytes)) filled_bits
         ∙ append_assoc (bits_of d r) (bits_of p.held p.fill) (bits_of_bytes (drop p.at bytes));
   }
 
@@ -91,7 +91,7 @@ module _ (p : Packing) (d r : ℕ) (bytes : List ℕ) (room : Room p d r bytes) 
       all =
           sym (bits_of-append (p.held + d - 8) 8 (filled / 256) (filled % 256) (omega arith))
           ∙ ap₂ bits_of more (div-add-mod' filled 256)
-          ∙ filled-bits
+          ∙ filled_bits
 
 -- ---- all bits written
 

@@ -111,8 +111,8 @@ module _ (file : List ℕ) (ok : UnpackOk file) where
   held_shape = none_then _ _ ((shape_none _ _).1 held_ok.start) ((shape_none _ _).1 held_ok.bits)
 
   -- As many bytes are packed of its bits.
-  packed-long : length (pack_bits (joined (plan_in file).l (step_bits (plan_in file)))) ≡ bits_length (plan_in file).d (plan_in file).l
-  packed-long = packed_length (plan_in file).d (plan_in file).l (step_bits (plan_in file)) (length-step_bits (plan_in file))
+  packed_long : length (pack_bits (joined (plan_in file).l (step_bits (plan_in file)))) ≡ bits_length (plan_in file).d (plan_in file).l
+  packed_long = packed_length (plan_in file).d (plan_in file).l (step_bits (plan_in file)) (length-step_bits (plan_in file))
 
   -- ---- the last bytes
 
@@ -166,7 +166,7 @@ module _ (file : List ℕ) (ok : UnpackOk file) where
         ap (λ s. bit_at (drop p.d s) n) tail_is
         ∙ bit_behind p.start p.bits (trailer_of p) p.d n held_ok.start (bits_within p.d p.l n held_ok.bits h)
         ∙ sym (packed_bit p.bits p.d p.l n h)
-        ∙ sym (bit_behind p.start _ (trailer_of p) p.d n held_ok.start (bits_within p.d p.l n packed-long h))
+        ∙ sym (bit_behind p.start _ (trailer_of p) p.d n held_ok.start (bits_within p.d p.l n packed_long h))
 
     -- .. in every byte but the last of the body ..
     pub tail_byte : (i : ℕ) → i ≢ body_length (d_in file) (l_in file) - 1
@@ -175,7 +175,7 @@ module _ (file : List ℕ) (ok : UnpackOk file) where
     tail_byte i ne =
         let p = plan_in file in
         ap (λ s. get_or s i 0) tail_is
-        ∙ apart p.start p.bits (pack_bits (joined p.l (step_bits p))) (trailer_of p) (held_ok.bits ∙ sym packed-long) i
+        ∙ apart p.start p.bits (pack_bits (joined p.l (step_bits p))) (trailer_of p) (held_ok.bits ∙ sym packed_long) i
         (λ j h e. sym (packed_byte p.bits p.d p.l bits_small j (whole i j ne h e)))
 
     -- .. and wholly exactly where the filling bits are 0.
@@ -185,5 +185,5 @@ module _ (file : List ℕ) (ok : UnpackOk file) where
     tail_packed =
         let p = plan_in file in
         subst (λ l. l ≡ file_of p ↔ ((n : ℕ) → p.l * p.d ≤ n → bit_at p.bits n ≡ 0)) (sym tail_is)
-        (Iff.trans (between p.start p.bits (pack_bits (joined p.l (step_bits p))) (trailer_of p) (held_ok.bits ∙ sym packed-long))
+        (Iff.trans (between p.start p.bits (pack_bits (joined p.l (step_bits p))) (trailer_of p) (held_ok.bits ∙ sym packed_long))
         (packed_same p.bits p.d p.l bits_small held_ok.bits))

@@ -13,7 +13,7 @@ use lib.Seq.{get_or-append-add, get_or-drop, ext_get_or}
 use Rattle.ladder.specs.Lists.{tabulate, joined}
 use Rattle.ladder.specs.Numbers.{bit_at, byte_of, bytes_for, pack_bits, bits_at, bits_length}
 use Rattle.ladder.specs.Plan.{Plan, step_bits}
-use Rattle.ladder.proofs.Lists.{length-tabulate, get_d_tabulate, tabulate-same, tabulate-get_or, tabulate_add, append_below, length-joined}
+use Rattle.ladder.proofs.Lists.{length-tabulate, get_or-tabulate, tabulate-same, tabulate-get_or, tabulate_add, append_below, length-joined}
 use Rattle.ladder.proofs.Numbers.{tabulate_below, drop_below}
 
 -- ---- a byte and its bits
@@ -84,7 +84,7 @@ unfolding pack_bits
 get_or-pack_bits bits q = go (dec_lt q (bytes_for (length bits)))
   where
     go : Dec (q < bytes_for (length bits)) → get_or (pack_bits bits) q 0 ≡ byte_of (drop (8 * q) bits)
-    go (yes h) = get_d_tabulate (bytes_for (length bits)) (λ k. byte_of (drop (8 * k) bits)) q 0 h
+    go (yes h) = get_or-tabulate (bytes_for (length bits)) (λ k. byte_of (drop (8 * k) bits)) q 0 h
     go (no h) =
         get_or-eq_default (pack_bits bits) 0 (omega (arith, length-pack_bits bits))
         ∙ unfold byte_of bytes_for in rw (drop_of_length-le bits {i = 8 * q} (omega arith)) refl
@@ -130,7 +130,7 @@ pack_bits_of bytes n h e z =
     bits = tabulate_below 2 n (bit_at bytes) (omega arith) (λ k l. bit_at_below bytes k)
 
     go : (i : ℕ) → Dec (i < n) → get_or (tabulate n (bit_at bytes)) i 0 ≡ bit_at bytes i
-    go i (yes l) = get_d_tabulate n (bit_at bytes) i 0 l
+    go i (yes l) = get_or-tabulate n (bit_at bytes) i 0 l
     go i (no l) =
         get_or-eq_default (tabulate n (bit_at bytes)) 0 (omega (arith, length-tabulate n (bit_at bytes)))
         ∙ sym (z i (omega arith))
@@ -211,32 +211,32 @@ bits_bound d l h g = omega (arith, mul-le-mul {n₁ = l} {m₁ = d} {n₂ = 576}
 -- ---- the bits of a plan, packed
 
 module _ (bytes : List ℕ) (d l : ℕ) where
-  packed-at : (n : ℕ) → bit_at (pack_bits (joined l (bits_at d bytes))) n ≡ get_or (tabulate (l * d) (bit_at bytes)) n 0
+  packed_at : (n : ℕ) → bit_at (pack_bits (joined l (bits_at d bytes))) n ≡ get_or (tabulate (l * d) (bit_at bytes)) n 0
   unfolding bits_at
-  packed-at n =
+  packed_at n =
       ap (λ b. bit_at (pack_bits b) n) (bits_in_order bytes d l)
       ∙ bit_at-pack_bits (tabulate (l * d) (bit_at bytes)) (tabulate_below 2 (l * d) (bit_at bytes) (omega arith) (λ k h. bit_at_below bytes k)) n
 
-  packed-small : (q : ℕ) → get_or (pack_bits (joined l (bits_at d bytes))) q 0 < 256
+  packed_small : (q : ℕ) → get_or (pack_bits (joined l (bits_at d bytes))) q 0 < 256
   unfolding bits_at
-  packed-small =
+  packed_small =
       pack_bits_below (joined l (bits_at d bytes))
       (joined_below 2 l (bits_at d bytes) (omega arith) (λ s. tabulate_below 2 d _ (omega arith) (λ k h. bit_at_below bytes (s * d + k))))
 
   -- The bits of all steps are packed as they are ..
   pub packed_bit : (n : ℕ) → n < l * d → bit_at (pack_bits (joined l (bits_at d bytes))) n ≡ bit_at bytes n
-  packed_bit n h = packed-at n ∙ get_d_tabulate (l * d) (bit_at bytes) n 0 h
+  packed_bit n h = packed_at n ∙ get_or-tabulate (l * d) (bit_at bytes) n 0 h
 
   -- .. and are filled with 0.
   pub packed_filling : (n : ℕ) → l * d ≤ n → bit_at (pack_bits (joined l (bits_at d bytes))) n ≡ 0
   packed_filling n h =
-      packed-at n ∙ get_or-eq_default (tabulate (l * d) (bit_at bytes)) 0 (omega (arith, length-tabulate (l * d) (bit_at bytes)))
+      packed_at n ∙ get_or-eq_default (tabulate (l * d) (bit_at bytes)) 0 (omega (arith, length-tabulate (l * d) (bit_at bytes)))
 
   -- A byte of plan bits alone is packed as it is.
   pub packed_byte : ((i : ℕ) → get_or bytes i 0 < 256) → (q : ℕ) → 8 * q + 8 ≤ l * d
       → get_or (pack_bits (joined l (bits_at d bytes))) q 0 ≡ get_or bytes q 0
   packed_byte small q h =
-      same_byte (pack_bits (joined l (bits_at d bytes))) bytes q (packed-small q) (small q) (λ r k. packed_bit (8 * q + r) (omega arith))
+      same_byte (pack_bits (joined l (bits_at d bytes))) bytes q (packed_small q) (small q) (λ r k. packed_bit (8 * q + r) (omega arith))
 
   -- So lent bytes are what is packed of them exactly where their filling bits are 0.
   pub packed_same : ((i : ℕ) → get_or bytes i 0 < 256) → length bytes ≡ bits_length d l

@@ -149,17 +149,17 @@ unfolding plan_refusal
 plan_len p shapes e ne = then_next (dim p.d) _ e ∙ given (len p.l) _ LENGTH (len_is p.l) ne
 
 module _ (p : Plan) (shapes : ℕ) (d-ok : dim p.d ≡ 0) (l-ok : len p.l ≡ 0) where
-  from-shapes : plan_refusal p shapes ≡ shapes then read_refusal p
+  from_shapes : plan_refusal p shapes ≡ shapes then read_refusal p
   unfolding plan_refusal
-  from-shapes = then_next (dim p.d) _ d-ok ∙ then_next (len p.l) _ l-ok
+  from_shapes = then_next (dim p.d) _ d-ok ∙ then_next (len p.l) _ l-ok
 
   -- .. then what stands at number 3, which has one number ..
-  plan-shapes : (k : ℕ) → (shapes ≡ 0) ⊎ (shapes ≡ k) → (shapes ≡ 0 → ⊥) → plan_refusal p shapes ≡ k
-  plan-shapes k is ne = from-shapes ∙ given shapes _ k is ne
+  plan_shapes : (k : ℕ) → (shapes ≡ 0) ⊎ (shapes ≡ k) → (shapes ≡ 0 → ⊥) → plan_refusal p shapes ≡ k
+  plan_shapes k is ne = from_shapes ∙ given shapes _ k is ne
 
   -- .. then what is read, ..
   plan_read : shapes ≡ 0 → plan_refusal p shapes ≡ read_refusal p
-  plan_read e = from-shapes ∙ then_next shapes _ e
+  plan_read e = from_shapes ∙ then_next shapes _ e
 
 module _ (p : Plan) where
   -- .. of which 5 comes first ..
@@ -201,7 +201,7 @@ module _ (p : Plan) (others : ℕ) where
       → loose_refusal p others ≡ SHAPE
   unfolding loose_refusal plan_shape
   loose_shape d-ok l-ok is =
-      plan-shapes p _ d-ok l-ok SHAPE (then_is _ _ SHAPE (then_is _ _ SHAPE (shape_is p.start _) (shape_is p.bits _)) is)
+      plan_shapes p _ d-ok l-ok SHAPE (then_is _ _ SHAPE (then_is _ _ SHAPE (shape_is p.start _) (shape_is p.bits _)) is)
 
   -- .. then what is read.
   pub loose_read : dim p.d ≡ 0 → len p.l ≡ 0 → plan_shape p then others ≡ 0 → loose_refusal p others ≡ read_refusal p
@@ -303,26 +303,26 @@ module _ (file : List ℕ) where
   unpack_trailer = given (trailer file) _ TRAILER (trailer_is file)
 
   module _ (marked : trailer file ≡ 0) where
-    past-trailer : unpack_refusal file ≡ plan_refusal (plan_in file) (distance file)
+    past_trailer : unpack_refusal file ≡ plan_refusal (plan_in file) (distance file)
     unfolding unpack_refusal
-    past-trailer = then_next (trailer file) _ marked
+    past_trailer = then_next (trailer file) _ marked
 
     -- .. then 1 ..
     pub unpack_dim : (dim (plan_in file).d ≡ 0 → ⊥) → unpack_refusal file ≡ DIM
-    unpack_dim ne = past-trailer ∙ plan_dim (plan_in file) (distance file) ne
+    unpack_dim ne = past_trailer ∙ plan_dim (plan_in file) (distance file) ne
 
     -- .. then 2 ..
     pub unpack_len : dim (plan_in file).d ≡ 0 → (len (plan_in file).l ≡ 0 → ⊥) → unpack_refusal file ≡ LENGTH
-    unpack_len d-ok ne = past-trailer ∙ plan_len (plan_in file) (distance file) d-ok ne
+    unpack_len d-ok ne = past_trailer ∙ plan_len (plan_in file) (distance file) d-ok ne
 
     module _ (d-ok : dim (plan_in file).d ≡ 0) (l-ok : len (plan_in file).l ≡ 0) where
       -- .. then 9 for the distance ..
       pub unpack_distance : (distance file ≡ 0 → ⊥) → unpack_refusal file ≡ TRAILER
-      unpack_distance ne = past-trailer ∙ plan-shapes (plan_in file) (distance file) d-ok l-ok TRAILER (distance_is file) ne
+      unpack_distance ne = past_trailer ∙ plan_shapes (plan_in file) (distance file) d-ok l-ok TRAILER (distance_is file) ne
 
       -- .. then what is read.
       pub unpack_read : distance file ≡ 0 → unpack_refusal file ≡ read_refusal (plan_in file)
-      unpack_read e = past-trailer ∙ plan_read (plan_in file) (distance file) d-ok l-ok e
+      unpack_read e = past_trailer ∙ plan_read (plan_in file) (distance file) d-ok l-ok e
 
   -- The listing program gives 10 before all else, then what unpack gives.
   pub list_big : (big file ≡ 0 → ⊥) → list_refusal file ≡ BIG

@@ -22,9 +22,9 @@ use Rattle.ladder.proofs.Refusals.{Accepted}
 module _ {d : ℕ} {S : List ℕ} (a : Arrangement d S) (r : ℕ → List ℕ) (long : (s : ℕ) → length (r s) ≡ d)
     (small : (s k : ℕ) → get_or (r s) k 0 < 2) where
   -- The sign's digit is the lower number's last one.
-  digit-is : (n j : ℕ) → j < d → digit (get_or (signs_after d S r n) j (pos 0)) ≡ lower d (matrix_after d S r n) j % 2
+  digit_is : (n j : ℕ) → j < d → digit (get_or (signs_after d S r n) j (pos 0)) ≡ lower d (matrix_after d S r n) j % 2
   unfolding digit
-  digit-is n j h =
+  digit_is n j h =
       ap (λ s. digit (get_or s j (pos 0))) (sym (signs_after_lem a r long n))
       ∙ ap digit (get_or-signs_of d (matrix_after d S r n) j h)
       ∙ ⊎_elim
@@ -42,7 +42,7 @@ module _ {d : ℕ} {S : List ℕ} (a : Arrangement d S) (r : ℕ → List ℕ) (
       (λ c. lower d (matrix_after d S r (suc n)) c
       ≡ 2 * lower d (matrix_after d S r n) c + (lower d (matrix_after d S r n) c + get_or (r n) p.0 0) % 2)
       p.2 (lower_after a r long n p.0 p.1 (small n p.0)) in
-      omega (arith, next, walked_is_lower n j h, digit-is (suc n) j h)
+      omega (arith, next, walked_is_lower n j h, digit_is (suc n) j h)
 
   -- What the walk yields is the entry of the row.
   pub entry_by_walk : (n i j : ℕ) → i ≤ d → j < d

@@ -13,7 +13,7 @@ use Rattle.ladder.specs.Matrix.{row, entry, Arrangement, StateMatrix, matrix_aft
 use Rattle.ladder.specs.Plan.{Plan, start_order, step_bits, matrix_in, order_in, last_matrix, end_order, answer_row, values_in}
 use Rattle.ladder.specs.Encoding.{encoded_start, encoded_bits, encode_with, encode}
 use Rattle.ladder.specs.Registers.{combination, modulus, plain_registers, difference_registers, answer_register}
-use Rattle.ladder.proofs.Lists.{length-tabulate, get_d_tabulate, get_d_map, joined_same, odds_le}
+use Rattle.ladder.proofs.Lists.{length-tabulate, get_or-tabulate, get_or-map, joined_same, odds_le}
 use Rattle.ladder.proofs.Numbers.{numbers_of-words_of_all, value_fits}
 use Rattle.ladder.proofs.Bits.{step_of_packed, pack_bits_of, bits_in_order, length-step_bits, step_bits_below}
 use Rattle.ladder.proofs.Stairs.{stairs}
@@ -125,8 +125,8 @@ module _ (p : Plan) (ok : Accepted p) where
     tabulate p.d lowest,
     record {
       long = length-tabulate p.d lowest;
-      first = λ j h. rw (get_d_tabulate p.d lowest j 0 h) (first_by_lower (stairs (state_in p ok p.l)) j h);
-      last = λ j h. rw (get_d_tabulate p.d lowest j 0 h) (last_by_lower (stairs (state_in p ok p.l)) j h);
+      first = λ j h. rw (get_or-tabulate p.d lowest j 0 h) (first_by_lower (stairs (state_in p ok p.l)) j h);
+      last = λ j h. rw (get_or-tabulate p.d lowest j 0 h) (last_by_lower (stairs (state_in p ok p.l)) j h);
     },
   )
     where
@@ -147,13 +147,13 @@ module _ (p : Plan) (ok : Accepted p) where
         ∙ ap (map suc) (sym (start_back p.l ok.start (step_bits p) (length-step_bits p) (step_bits_below p) ks e.first e.last))
 
     -- .. the bits of each step ..
-    worked-out : (s : ℕ) → s < p.l → encoded_bits p.l ks (end_order p) s ≡ step_bits p s
+    worked_out : (s : ℕ) → s < p.l → encoded_bits p.l ks (end_order p) s ≡ step_bits p s
     unfolding last_matrix matrix_in end_order order_in
-    worked-out = bits_back p.l ok.start (step_bits p) (length-step_bits p) (step_bits_below p) ks e.first e.last
+    worked_out = bits_back p.l ok.start (step_bits p) (length-step_bits p) (step_bits_below p) ks e.first e.last
 
     pub plan_of_scalars_bits : (s : ℕ) → s < p.l → step_bits p s ≡ step_bits (encode_with p.d p.l ks (end_order p)) s
     unfolding end_order
-    plan_of_scalars_bits s h = sym (encoded-step_bits p.l ks (state_in p ok p.l).order s h ∙ worked-out s h)
+    plan_of_scalars_bits s h = sym (encoded-step_bits p.l ks (state_in p ok p.l).order s h ∙ worked_out s h)
 
     -- .. and, where the filling bits are 0, the very bytes.
     pub plan_of_scalars_bytes : length p.bits ≡ bits_length p.d p.l → ((i : ℕ) → get_or p.bits i 0 < 256)
@@ -163,23 +163,23 @@ module _ (p : Plan) (ok : Accepted p) where
     plan_of_scalars_bytes long bytes filling =
         sym
         (ap pack_bits
-        (joined_same p.l (encoded_bits p.l ks (end_order p)) (step_bits p) worked-out ∙ bits_in_order p.bits p.d p.l)
+        (joined_same p.l (encoded_bits p.l ks (end_order p)) (step_bits p) worked_out ∙ bits_in_order p.bits p.d p.l)
         ∙ pack_bits_of p.bits (p.l * p.d) bytes long filling)
 
 -- ---- what is decoded
 
 module _ (p : Plan) (ok : Accepted p) where
-  answer-place : pred p.answer ≤ p.d
-  answer-place = omega (arith, ok.answer_high)
+  answer_place : pred p.answer ≤ p.d
+  answer_place = omega (arith, ok.answer_high)
 
   -- The answer row has d entries of at most 2^l ..
   pub answer_wide : length (answer_row p) ≡ p.d
   unfolding answer_row last_matrix
-  answer_wide = (state_in p ok p.l).wide (pred p.answer) answer-place
+  answer_wide = (state_in p ok p.l).wide (pred p.answer) answer_place
 
   pub answer_bound : (j : ℕ) → get_or (answer_row p) j 0 ≤ 2 ^ p.l
   unfolding answer_row last_matrix
-  answer_bound j = bound_in p ok p.l (pred p.answer) j answer-place
+  answer_bound j = bound_in p ok p.l (pred p.answer) j answer_place
 
   -- .. so floor(l / 64) + 1 words hold each: the words that decoding writes are the answer row.
   pub decode_words : numbers_of p.d (value_words p.l) (values_in p) ≡ answer_row p
@@ -200,8 +200,8 @@ module _ (p : Plan) (ok : Accepted p) where
   unfolding answer_register answer_row last_matrix
   answer_register_lem m es =
       ap (λ q. get_or q (pred p.answer) 0) (registers_in m es p.l)
-      ∙ get_d_map (combination m es) (matrix_in p p.l) (pred p.answer) [] 0
-      (omega (arith, (state_in p ok p.l).rows, answer-place))
+      ∙ get_or-map (combination m es) (matrix_in p p.l) (pred p.answer) [] 0
+      (omega (arith, (state_in p ok p.l).rows, answer_place))
 
   -- So is the difference run's.
   pub answer_register_difference : (m : ℕ) (es : List ℕ) → ((j : ℕ) → get_or es j 0 ≤ modulus m)

@@ -14,7 +14,7 @@ use Rattle.ladder.specs.Plan.{Plan, step_bits, matrix_in, order_in, signs_in}
 use Rattle.ladder.specs.Trace.{vector_of, Entry, operations, entry_of, block, block_in}
 use Rattle.ladder.specs.Registers.{modulus, plain_registers, difference_registers}
 use Rattle.ladder.specs.Refusals.{run_refusal}
-use Rattle.ladder.proofs.Lists.{get_d_map, ones_le}
+use Rattle.ladder.proofs.Lists.{get_or-map, ones_le}
 use Rattle.ladder.proofs.Step.{length-additions, additions_x, additions_y, row-step-suc, no_pair}
 use Rattle.ladder.proofs.Ladder.{state_after, signs_after_lem, entry_bound}
 use Rattle.ladder.proofs.Bits.{length-step_bits, step_bits_below}
@@ -44,10 +44,10 @@ unfoldable pub no_entry : Entry
 no_entry = record { x = 0; y = 0; vector = [] }
 
 module _ {d : ℕ} {B : Matrix} {S : List ℕ} (M : StateMatrix d B S) (r : List ℕ) (long : length r ≡ d) where
-  pair-adds : (p : Pair) (new : Row) → p.x < p.y → p.y ≤ d → new ≡ add_rows (row B p.x) (row B p.y)
+  pair_adds : (p : Pair) (new : Row) → p.x < p.y → p.y ≤ d → new ≡ add_rows (row B p.x) (row B p.y)
       → Adds d B new (entry_of d B p)
   unfolding entry_of
-  pair-adds p new h l e = record {
+  pair_adds p new h l e = record {
     apart = h;
     inside = l;
     sum = e;
@@ -59,7 +59,7 @@ module _ {d : ℕ} {B : Matrix} {S : List ℕ} (M : StateMatrix d B S) (r : List
   -- Entry i of a step's block is that of its operation i.
   block-entry : (i : ℕ) → i ≤ d → get_or (block d B r) i no_entry ≡ entry_of d B (get_or (operations r) i no_pair)
   unfolding block operations
-  block-entry i h = get_d_map (entry_of d B) (operations r) i no_pair no_entry (omega (arith, length-additions r))
+  block-entry i h = get_or-map (entry_of d B) (operations r) i no_pair no_entry (omega (arith, length-additions r))
 
   -- Each entry of a step's block but the first is an addition ..
   pub block_adds : (i : ℕ) → i < d → Adds d B (row (step B r) (suc i)) (get_or (block d B r) (suc i) no_entry)
@@ -67,7 +67,7 @@ module _ {d : ℕ} {B : Matrix} {S : List ℕ} (M : StateMatrix d B S) (r : List
   block_adds i h =
       let b : i < length r = omega arith in
       subst (Adds d B (row (step B r) (suc i))) (sym (block-entry (suc i) h))
-      (pair-adds (get_or (additions r) i no_pair) (row (step B r) (suc i)) (addition_apart r i b) (omega (arith, addition_inside r i b))
+      (pair_adds (get_or (additions r) i no_pair) (row (step B r) (suc i)) (addition_apart r i b) (omega (arith, addition_inside r i b))
       (row-step-suc B r i b
       ∙ ap₂ (λ x y. add_rows (row B x) (row B y)) (sym (additions_x r i no_pair b)) (sym (additions_y r i no_pair b))))
 

@@ -13,7 +13,7 @@ use lib.Seq.{ext_get_or}
 use Rattle.ladder.specs.Lists.{count, odds}
 use Rattle.ladder.specs.Matrix.{Matrix, row, entry, Arrangement, step_order, matrix_after, order_after}
 use Rattle.ladder.specs.Encoding.{scalar_bit, xor, dealt, deal, rearrange, order_to_go, encoded_start, encoded_bits}
-use Rattle.ladder.proofs.Lists.{get_d_map}
+use Rattle.ladder.proofs.Lists.{get_or-map}
 use Rattle.ladder.proofs.Order.{place_of, arrangement_rearrange, step_order-rearrange}
 use Rattle.ladder.proofs.Stairs.{Stairs}
 use Rattle.ladder.proofs.Ladder.{lower, state_after, stairs_after, entry_by_order, lower_after, lower_after_zero, count_before, count_after}
@@ -44,7 +44,7 @@ dealt_below l n s = omega arith
 
 pub deal_at : (l : ℕ) (ks S : List ℕ) (s k : ℕ) → k < length S → get_or (deal l ks S s) k 0 ≡ dealt l (get_or ks (get_or S k 0) 0) s
 unfolding deal
-deal_at l ks S s k h = get_d_map (λ j. dealt l (get_or ks j 0) s) S k 0 0 h
+deal_at l ks S s k h = get_or-map (λ j. dealt l (get_or ks j 0) s) S k 0 0 h
 
 pub length-deal : (l : ℕ) (ks S : List ℕ) (s : ℕ) → length (deal l ks S s) ≡ length S
 unfolding deal
@@ -94,8 +94,8 @@ module _ {d : ℕ} (l : ℕ) (ks : List ℕ) {E : List ℕ} (a : Arrangement d E
   abbrev encodedMatrix : ℕ → Matrix
   encodedMatrix s = matrix_after d (encoded_start l ks E) (encoded_bits l ks E) s
 
-  encoded-stairs : (s : ℕ) → Stairs d (encodedMatrix s) (order_after (encoded_start l ks E) (encoded_bits l ks E) s)
-  encoded-stairs = stairs_after start_arranged (encoded_bits l ks E) length-encoded_bits
+  encoded_stairs : (s : ℕ) → Stairs d (encodedMatrix s) (order_after (encoded_start l ks E) (encoded_bits l ks E) s)
+  encoded_stairs = stairs_after start_arranged (encoded_bits l ks E) length-encoded_bits
 
   -- The lower number of column j after s steps is the first s bits of its scalar.
   pub encoded_lower : ((j : ℕ) → j < d → get_or ks j 0 < 2 ^ l) → (s : ℕ) → s ≤ l → (j : ℕ) → j < d
@@ -141,7 +141,7 @@ module _ {d : ℕ} (l : ℕ) (ks : List ℕ) {E : List ℕ} (a : Arrangement d E
   encoded-entry : ((j : ℕ) → j < d → get_or ks j 0 < 2 ^ l) → (i j : ℕ) → i ≤ d → j < d
       → entry (encodedMatrix l) i j ≡ get_or ks j 0 + (get_or ks j 0 + count j (take i E)) % 2
   encoded-entry fits i j h b =
-      entry_by_order (encoded-stairs l) j b i h
+      entry_by_order (encoded_stairs l) j b i h
       ∙ ap₂ (λ m S. m + (m + count j (take i S)) % 2) (encoded_last fits j b) encoded_end
 
   -- In each column the last matrix has scalar plus its lowest bit in row 0 (the rules' row 1) ..
@@ -215,8 +215,8 @@ border d ks E f (suc n) h ev =
 
 module _ {d : ℕ} (l : ℕ) (ks : List ℕ) {E : List ℕ} (a : Arrangement d E) (wide : length ks ≡ d)
     (fits : (j : ℕ) → j < d → get_or ks j 0 < 2 ^ l) where
-  row-at-border : (i : ℕ) → Border d ks E i → row (encodedMatrix l ks a l) i ≡ ks
-  row-at-border i b =
+  row_at_border : (i : ℕ) → Border d ks E i → row (encodedMatrix l ks a l) i ≡ ks
+  row_at_border i b =
       let M = state_after (start_arranged l ks a) (encoded_bits l ks E) (length-encoded_bits l ks a) l in
       ext_get_or 0 (row (encodedMatrix l ks a l) i) ks (M.wide i b.inside ∙ sym wide)
       (λ j h.
@@ -246,5 +246,5 @@ module _ {d : ℕ} (l : ℕ) (ks : List ℕ) {E : List ℕ} (a : Arrangement d E
   encoded-answer f =
       let b = border d ks E f d (omega arith) (λ k q h. absurd (omega arith)) in
       let M = state_after (start_arranged l ks a) (encoded_bits l ks E) (length-encoded_bits l ks a) l in
-      let here = row-at-border b.0 b.1 in
+      let here = row_at_border b.0 b.1 in
       ap (row (encodedMatrix l ks a l)) (sym (ap odds here) ∙ M.odd b.0 b.1.inside) ∙ here

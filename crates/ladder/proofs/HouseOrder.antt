@@ -11,7 +11,7 @@ use lib.Seq.{get_or-append-add}
 use Rattle.ladder.specs.Lists.{tabulate}
 use Rattle.ladder.specs.Matrix.{Arrangement}
 use Rattle.ladder.specs.Encoding.{picked, passed, house_order}
-use Rattle.ladder.proofs.Lists.{length-tabulate, get_d_tabulate, get_d_map, count-append}
+use Rattle.ladder.proofs.Lists.{length-tabulate, get_or-tabulate, get_or-map, count-append}
 use Rattle.ladder.proofs.Order.{arrangement_by_counts, rising_arrangement, count-picked, length-picked, length-passed}
 use Rattle.ladder.proofs.Encoding.{OddFirst}
 
@@ -60,21 +60,21 @@ module _ (d : ℕ) (ks : List ℕ) (wide : length ks ≡ d) where
       ))
       (λ j. count-append j (picked rising parities) (passed rising parities) ∙ count-picked j rising parities lengths)
 
-  parity-at : (m : ℕ) → m < length rising → get_or parities m 0 ≡ get_or ks (get_or rising m 0) 0 % 2
-  parity-at m h =
+  parity_at : (m : ℕ) → m < length rising → get_or parities m 0 ≡ get_or ks (get_or rising m 0) 0 % 2
+  parity_at m h =
       let q : m < d = omega (arith, length-tabulate d (λ (j : ℕ). j)) in
-      get_d_map (λ n. n % 2) ks m 0 0 (omega arith) ∙ ap (λ c. get_or ks c 0 % 2) (sym (get_d_tabulate d (λ j. j) m 0 q))
+      get_or-map (λ n. n % 2) ks m 0 0 (omega arith) ∙ ap (λ c. get_or ks c 0 % 2) (sym (get_or-tabulate d (λ j. j) m 0 q))
 
-  first-odd : (k : ℕ) → k < length (picked rising parities) → get_or ks (get_or (house_order d ks) k 0) 0 % 2 ≡ 1
+  first_odd : (k : ℕ) → k < length (picked rising parities) → get_or ks (get_or (house_order d ks) k 0) 0 % 2 ≡ 1
   unfolding house_order
-  first-odd k h =
+  first_odd k h =
       let m = picked_from rising parities k h in
       ap (λ c. get_or ks c 0 % 2) (get_or-append (picked rising parities) (passed rising parities) 0 k h ∙ m.2)
-      ∙ omega (arith, parity-at m.0 m.1, m.3)
+      ∙ omega (arith, parity_at m.0 m.1, m.3)
 
-  then-even : (k : ℕ) → k < d → length (picked rising parities) ≤ k → get_or ks (get_or (house_order d ks) k 0) 0 % 2 ≡ 0
+  then_even : (k : ℕ) → k < d → length (picked rising parities) ≤ k → get_or ks (get_or (house_order d ks) k 0) 0 % 2 ≡ 0
   unfolding house_order
-  then-even k h q =
+  then_even k h q =
       let i = k - length (picked rising parities) in
       let m = passed_from rising parities i
       (omega (arith, length-picked rising parities lengths, length-passed rising parities lengths, length-map ks (λ n. n % 2))) in
@@ -83,7 +83,7 @@ module _ (d : ℕ) (ks : List ℕ) (wide : length ks ≡ d) where
       (ap (λ n. get_or (picked rising parities ++ passed rising parities) n 0) (sym e)
       ∙ get_or-append-add (picked rising parities) (passed rising parities) i 0
       ∙ m.2)
-      ∙ sym (parity-at m.0 m.1) ∙ m.3
+      ∙ sym (parity_at m.0 m.1) ∙ m.3
 
   -- .. with every odd scalar's column before every even one's.
   pub house_odd_first : OddFirst d ks (house_order d ks)
@@ -92,6 +92,6 @@ module _ (d : ℕ) (ks : List ℕ) (wide : length ks ≡ d) where
       go : (k m : ℕ) → k < d → m < d → get_or ks (get_or (house_order d ks) k 0) 0 % 2 ≡ 1
           → get_or ks (get_or (house_order d ks) m 0) 0 % 2 ≡ 0
           → Dec (k < length (picked rising parities)) → Dec (m < length (picked rising parities)) → k < m
-      go k m h q o e x (yes y) = absurd (omega (arith, first-odd m y))
+      go k m h q o e x (yes y) = absurd (omega (arith, first_odd m y))
       go k m h q o e (yes x) (no y) = omega arith
-      go k m h q o e (no x) (no y) = absurd (omega (arith, then-even k h (omega arith)))
+      go k m h q o e (no x) (no y) = absurd (omega (arith, then_even k h (omega arith)))

@@ -81,15 +81,15 @@ count_after S k i h c l =
     )
 
 module _ {d : ℕ} {S : List ℕ} (a : Arrangement d S) where
-  entry-start : (i j : ℕ) → j < d → i ≤ d → entry (start_matrix d S) i j ≡ count j (take i S)
+  entry_start : (i j : ℕ) → j < d → i ≤ d → entry (start_matrix d S) i j ≡ count j (take i S)
   unfolding start_matrix
-  entry-start i j h l =
+  entry_start i j h l =
       entry-rows_from (replicate d zero) S i j (omega (arith, length-replicate d zero)) (omega (arith, a.long))
       ∙ omega (arith, get_or_zeros d j)
 
-  first-row : (j : ℕ) → entry (start_matrix d S) 0 j ≡ 0
+  first_row : (j : ℕ) → entry (start_matrix d S) 0 j ≡ 0
   unfolding start_matrix rows_from
-  first-row j = first S ∙ get_or_zeros d j
+  first_row j = first S ∙ get_or_zeros d j
     where
       first : (U : List ℕ) → entry (rows_from (replicate d zero) U) 0 j ≡ get_or (replicate d zero) j 0
       first [] = refl
@@ -98,7 +98,7 @@ module _ {d : ℕ} {S : List ℕ} (a : Arrangement d S) where
   last_row : (j : ℕ) → j < d → entry (start_matrix d S) d j ≡ 1
   last_row j h =
       let p = place_of a j h in
-      entry-start d j h (omega arith)
+      entry_start d j h (omega arith)
       ∙ subst (λ c. count c (take d S) ≡ 1) p.2
       (count_after S p.0 d (omega (arith, p.1, a.long)) (ap (λ c. count c S) p.2 ∙ a.once j h) p.1)
 
@@ -114,11 +114,11 @@ module _ {d : ℕ} {S : List ℕ} (a : Arrangement d S) where
         let here : k < length S = omega (arith, a.long) in
         record {
           upper = λ i l.
-              entry-start i j inside (omega arith) ∙ count_before S k i here (a.once j inside) l ∙ sym (first-row j);
-          lower = λ i l m. entry-start i j inside m ∙ count_after S k i here (a.once j inside) l ∙ sym (last_row j inside);
+              entry_start i j inside (omega arith) ∙ count_before S k i here (a.once j inside) l ∙ sym (first_row j);
+          lower = λ i l m. entry_start i j inside m ∙ count_after S k i here (a.once j inside) l ∙ sym (last_row j inside);
         };
-    even = λ j. ap (λ n. n % 2) (first-row j);
-    apart = λ j h. inl (last_row j h ∙ ap suc (sym (first-row j)));
+    even = λ j. ap (λ n. n % 2) (first_row j);
+    apart = λ j h. inl (last_row j h ∙ ap suc (sym (first_row j)));
   }
 
   -- The start matrix is a state matrix with the start order, and all its signs are +1.
@@ -133,7 +133,7 @@ module _ {d : ℕ} {S : List ℕ} (a : Arrangement d S) where
       (λ j h.
       let l : j < d = omega (arith, length-signs_of d (start_matrix d S)) in
       get_or-signs_of d (start_matrix d S) j l
-      ∙ sign_up (entry (start_matrix d S) 0 j) (entry (start_matrix d S) d j) (last_row j l ∙ ap suc (sym (first-row j)))
+      ∙ sign_up (entry (start_matrix d S) 0 j) (entry (start_matrix d S) d j) (last_row j l ∙ ap suc (sym (first_row j)))
       ∙ sym (get_or-replicate d j (pos 1) (pos 0) l))
 
 -- ---- the lower neighbour of a column
@@ -228,7 +228,7 @@ module _ {d : ℕ} {S : List ℕ} (a : Arrangement d S) (r : ℕ → List ℕ) (
   -- Before the first step every lower number is 0.
   pub lower_after_zero : (j : ℕ) → lower d (matrix_after d S r zero) j ≡ 0
   unfolding matrix_after
-  lower_after_zero j = omega (arith, first-row a j)
+  lower_after_zero j = omega (arith, first_row a j)
 
   -- The lower number of the column that stands at place k after step n, whose bit is r n's bit k.
   pub lower_after : (n k : ℕ) → k < d → get_or (r n) k 0 < 2

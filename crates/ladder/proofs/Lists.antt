@@ -19,11 +19,11 @@ unfolding tabulate
 length-tabulate zero f = refl
 length-tabulate (suc n) f = ap suc (length-tabulate n (λ k. f (suc k)))
 
-pub get_d_tabulate : {A : Type 0} (n : ℕ) (f : ℕ → A) (i : ℕ) (z : A) → i < n → get_or (tabulate n f) i z ≡ f i
+pub get_or-tabulate : {A : Type 0} (n : ℕ) (f : ℕ → A) (i : ℕ) (z : A) → i < n → get_or (tabulate n f) i z ≡ f i
 unfolding tabulate
-get_d_tabulate zero f i z h = absurd (not-suc-le-zero h)
-get_d_tabulate (suc n) f zero z h = refl
-get_d_tabulate (suc n) f (suc i) z h = get_d_tabulate n (λ k. f (suc k)) i z (le_of_suc-le-suc h)
+get_or-tabulate zero f i z h = absurd (not-suc-le-zero h)
+get_or-tabulate (suc n) f zero z h = refl
+get_or-tabulate (suc n) f (suc i) z h = get_or-tabulate n (λ k. f (suc k)) i z (le_of_suc-le-suc h)
 
 -- Two rules that agree below n make the same list.
 pub tabulate-same : {A : Type 0} (n : ℕ) (f g : ℕ → A) → ((k : ℕ) → k < n → f k ≡ g k) → tabulate n f ≡ tabulate n g
@@ -77,10 +77,10 @@ append_below b [] t h g i = g i
 append_below b (a ∷ s) t h g zero = h zero
 append_below b (a ∷ s) t h g (suc i) = append_below b s t (λ j. h (suc j)) g i
 
-pub get_d_map : {A B : Type 0} (f : A → B) (l : List A) (i : ℕ) (z : A) (w : B) → i < length l → get_or (map f l) i w ≡ f (get_or l i z)
-get_d_map f [] i z w h = absurd (not-suc-le-zero h)
-get_d_map f (a ∷ l) zero z w h = refl
-get_d_map f (a ∷ l) (suc i) z w h = get_d_map f l i z w (le_of_suc-le-suc h)
+pub get_or-map : {A B : Type 0} (f : A → B) (l : List A) (i : ℕ) (z : A) (w : B) → i < length l → get_or (map f l) i w ≡ f (get_or l i z)
+get_or-map f [] i z w h = absurd (not-suc-le-zero h)
+get_or-map f (a ∷ l) zero z w h = refl
+get_or-map f (a ∷ l) (suc i) z w h = get_or-map f l i z w (le_of_suc-le-suc h)
 
 pub map-map : {A B C : Type 0} (g : B → C) (f : A → B) (l : List A) → map g (map f l) ≡ map (λ a. g (f a)) l
 map-map g f [] = refl

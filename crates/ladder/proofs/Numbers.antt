@@ -11,7 +11,7 @@ use lib.Seq.{take_at, drop-append-add, get_or-take, get_or-drop, length-take-le}
 use lib.Pow.{pow_pos, pow_mono, pow-lt, pow-add}
 use Rattle.ladder.specs.Lists.{tabulate}
 use Rattle.ladder.specs.Numbers.{number_of, words_of, numbers_of, words_of_all, scalar_words, value_words}
-use Rattle.ladder.proofs.Lists.{length-tabulate, get_d_tabulate, tabulate-same}
+use Rattle.ladder.proofs.Lists.{length-tabulate, get_or-tabulate, tabulate-same}
 
 -- ---- elements below a bound
 
@@ -175,7 +175,7 @@ own k ws j = take k (drop (j * k) ws)
 -- Number j is the number of its words ..
 pub number_at : (d k : ℕ) (ws : List ℕ) (j : ℕ) → j < d → get_or (numbers_of d k ws) j 0 ≡ number_of (own k ws j)
 unfolding numbers_of
-number_at d k ws j h = get_d_tabulate d (λ i. number_of (own k ws i)) j 0 h
+number_at d k ws j h = get_or-tabulate d (λ i. number_of (own k ws i)) j 0 h
 
 -- .. which are words of 64 bits, those from j*k on ..
 pub own_below : (k : ℕ) (ws : List ℕ) → ((i : ℕ) → get_or ws i 0 < 2 ^ 64) → (j i : ℕ) → get_or (own k ws j) i 0 < 2 ^ 64

@@ -12,7 +12,7 @@ use borrow.Author.Tests.{lt-ltb, le-ltb}
 use lib.ListN.{length, get_or, length-append, get_or-append}
 use Rattle.ladder.specs.Lists.{tabulate}
 use Rattle.ladder.specs.Listing.{digits_within, digits_of}
-use Rattle.ladder.proofs.Lists.{length-tabulate, get_d_tabulate, tabulate-same, tabulate-suc, append_below}
+use Rattle.ladder.proofs.Lists.{length-tabulate, get_or-tabulate, tabulate-same, tabulate-suc, append_below}
 
 -- The number that digits stand for in a base, the highest first.
 unfoldable pub value_of : ℕ → List ℕ → ℕ
@@ -118,11 +118,11 @@ module _ (base : ℕ) (two : 2 ≤ base) where
   power_pos : (k : ℕ) → 1 ≤ base ^ k
   power_pos k = one-le-pow k base (omega arith)
 
-  power-one : base ^ 1 ≡ base
-  power-one = pow-suc base 0 ∙ ap (λ m. m * base) (pow-zero base) ∙ one-mul base
+  power_one : base ^ 1 ≡ base
+  power_one = pow-suc base 0 ∙ ap (λ m. m * base) (pow-zero base) ∙ one-mul base
 
-  last-digit : (n : ℕ) → n / base ^ 0 % base ≡ n % base
-  last-digit n = ap (λ m. m % base) (ap (λ m. n / m) (pow-zero base) ∙ div-one n)
+  last_digit : (n : ℕ) → n / base ^ 0 % base ≡ n % base
+  last_digit n = ap (λ m. m % base) (ap (λ m. n / m) (pow-zero base) ∙ div-one n)
 
   shorter : (k n : ℕ) → n < base ^ suc k → n / base < base ^ k
   shorter k n h = (div-lt_iff_lt-mul {k = base} (omega arith)).1 (rw (pow-suc base k) at h)
@@ -134,14 +134,14 @@ module _ (base : ℕ) (two : 2 ≤ base) where
   pub digits_at : (k n : ℕ) → n < base ^ suc k → (k ≡ 0) ⊎ (base ^ k ≤ n)
       → digits_of base n ≡ tabulate (suc k) (λ i. n / base ^ (k - i) % base)
   digits_at zero n h w =
-      let small : n < base = omega (arith, power-one) in
-      digits_small base n small ∙ unfold tabulate in ap (λ x. x ∷ []) (sym (last-digit n ∙ mod-eq_of_lt small))
+      let small : n < base = omega (arith, power_one) in
+      digits_small base n small ∙ unfold tabulate in ap (λ x. x ∷ []) (sym (last_digit n ∙ mod-eq_of_lt small))
   digits_at (suc k) n h (inl e) = absurd (omega arith)
   digits_at (suc k) n h (inr low) =
       digits_more n large
       ∙ ap₂ (λ ds x. ds ++ (x ∷ []))
       (digits_at k (n / base) (shorter (suc k) n h) (inr (longer k n low)) ∙ tabulate-same (suc k) _ _ higher)
-      (sym (ap (λ e. n / base ^ e % base) (sub_self (suc k)) ∙ last-digit n))
+      (sym (ap (λ e. n / base ^ e % base) (sub_self (suc k)) ∙ last_digit n))
       ∙ sym (tabulate-suc (suc k) (λ i. n / base ^ (suc k - i) % base))
     where
       large : base ≤ n
@@ -164,14 +164,14 @@ module _ (base : ℕ) (two : 2 ≤ base) where
   pub digits_power : (n : ℕ) → n < base ^ length (digits_of base n)
   digits_power =
       by_digits (λ n. n < base ^ length (digits_of base n))
-      (λ n h. rw (digits_small base n h) (rw power-one h))
+      (λ n h. rw (digits_small base n h) (rw power_one h))
       (λ n h e.
       rw (one_more n h, pow-suc base (length (digits_of base (n / base))))
       ((div-lt_iff_lt-mul {k = base} {x = n} {y = base ^ length (digits_of base (n / base))} (omega arith)).0 e))
 
   -- .. and below a power it has no more digits than that has places.
   pub digits_length : (k n : ℕ) → n < base ^ suc k → length (digits_of base n) ≤ suc k
-  digits_length zero n h = omega (arith, ap length (digits_small base n (omega (arith, power-one))))
+  digits_length zero n h = omega (arith, ap length (digits_small base n (omega (arith, power_one))))
   digits_length (suc k) n h = go (dec_lt n base) (digits_length k (n / base) (shorter (suc k) n h))
     where
       go : Dec (n < base) → length (digits_of base (n / base)) ≤ suc k → length (digits_of base n) ≤ suc (suc k)
@@ -193,4 +193,4 @@ module _ (base : ℕ) (two : 2 ≤ base) where
       let k = length (digits_of base n) - 1 in
       let last : suc k ≡ length (digits_of base n) = omega (arith, digits_some n) in
       ap (λ ds. get_or ds i 0) (digits_at k n (rw last (digits_power n)) (fewest k n (sym last)))
-      ∙ get_d_tabulate (suc k) (λ j. n / base ^ (k - j) % base) i 0 (omega arith)
+      ∙ get_or-tabulate (suc k) (λ j. n / base ^ (k - j) % base) i 0 (omega arith)

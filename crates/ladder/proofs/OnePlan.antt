@@ -53,16 +53,16 @@ module _ {d : ℕ} (l : ℕ) {S : List ℕ} (a : Arrangement d S) (r : ℕ → L
       e (lower_after a r long n k h (small n k))
 
   -- The lower number m steps before the end is the scalar without its last m bits.
-  lower-back : (m : ℕ) → m ≤ l → (j : ℕ) → j < d → lower d (matrix_after d S r (l - m)) j ≡ get_or ks j 0 / 2 ^ m
-  lower-back zero h j b =
+  lower_back : (m : ℕ) → m ≤ l → (j : ℕ) → j < d → lower d (matrix_after d S r (l - m)) j ≡ get_or ks j 0 / 2 ^ m
+  lower_back zero h j b =
       ap (λ n. lower d (matrix_after d S r n) j) (omega arith) ∙ scalar_is j b ∙ sym (div-one (get_or ks j 0))
-  lower-back (suc m) h j b =
+  lower_back (suc m) h j b =
       let s = l - suc m in
       let e : l - m ≡ suc s = omega arith in
       let p = place_of (arranged (suc s)) j b in
       let next = lower_of s p.0 j p.1 p.2 in
       let here : lower d (matrix_after d S r (suc s)) j ≡ get_or ks j 0 / 2 ^ m =
-      ap (λ n. lower d (matrix_after d S r n) j) (sym e) ∙ lower-back m (omega arith) j b in
+      ap (λ n. lower d (matrix_after d S r n) j) (sym e) ∙ lower_back m (omega arith) j b in
       let power : m + 1 ≡ suc m = omega arith in
       omega (arith, next, here, shr-shr (get_or ks j 0) m 1, ap (λ n. get_or ks j 0 / 2 ^ n) power)
 
@@ -82,29 +82,29 @@ module _ {d : ℕ} (l : ℕ) {S : List ℕ} (a : Arrangement d S) (r : ℕ → L
       deal_at l ks (order_after S r (suc s)) s k (omega (arith, (arranged (suc s)).long))
       ∙ dealt_is l (get_or ks j 0) s (scalar_fits j inside)
       ∙ ap₂ (λ x y. (x % 2 + y % 2) % 2)
-      (sym (lower-back (l - suc s) (omega arith) j inside) ∙ ap (λ n. lower d (matrix_after d S r n) j) (omega arith))
-      (sym (lower-back (l - s) (omega arith) j inside) ∙ ap (λ n. lower d (matrix_after d S r n) j) (omega arith))
+      (sym (lower_back (l - suc s) (omega arith) j inside) ∙ ap (λ n. lower d (matrix_after d S r n) j) (omega arith))
+      (sym (lower_back (l - s) (omega arith) j inside) ∙ ap (λ n. lower d (matrix_after d S r n) j) (omega arith))
       ∙ bit_back (lower d (matrix_after d S r (suc s)) j) (lower d (matrix_after d S r s) j) (get_or (r s) k 0) (small s k)
       (lower_of s k j b refl))
 
-  orders-back : (m : ℕ) → m ≤ l → order_to_go l ks (order_after S r l) m ≡ order_after S r (l - m)
+  orders_back : (m : ℕ) → m ≤ l → order_to_go l ks (order_after S r l) m ≡ order_after S r (l - m)
   unfolding order_to_go order_after
-  orders-back zero h = ap (order_after S r) (sym (sub-zero l))
-  orders-back (suc m) h =
+  orders_back zero h = ap (order_after S r) (sym (sub-zero l))
+  orders_back (suc m) h =
       let s = l - suc m in
       let e : l - m ≡ suc s = omega arith in
-      ap (λ U. rearrange U (deal l ks U s)) (orders-back m (omega arith) ∙ ap (order_after S r) e)
+      ap (λ U. rearrange U (deal l ks U s)) (orders_back m (omega arith) ∙ ap (order_after S r) e)
       ∙ ap (rearrange (step_order (order_after S r s) (r s))) (dealt_back s (omega arith))
       ∙ rearrange-step_order (order_after S r s) (r s) ((arranged s).long ∙ sym (long s))
 
   -- Encoding the scalars with the last matrix's order gives back the start order ..
   pub start_back : encoded_start l ks (order_after S r l) ≡ S
   unfolding encoded_start order_after
-  start_back = orders-back l (omega arith) ∙ ap (order_after S r) (sub_self l)
+  start_back = orders_back l (omega arith) ∙ ap (order_after S r) (sub_self l)
 
   -- .. and the bits of each step.
   pub bits_back : (s : ℕ) → s < l → encoded_bits l ks (order_after S r l) s ≡ r s
   unfolding encoded_bits
   bits_back s h =
       let e : l - (l - suc s) ≡ suc s = omega arith in
-      ap (λ U. deal l ks U s) (orders-back (l - suc s) (omega arith) ∙ ap (order_after S r) e) ∙ dealt_back s h
+      ap (λ U. deal l ks U s) (orders_back (l - suc s) (omega arith) ∙ ap (order_after S r) e) ∙ dealt_back s h

@@ -12,7 +12,7 @@ use lib.Seq.{get_or_at, take-suc, drop-cons, get_or-drop, append_snoc, take_all}
 use Rattle.ladder.specs.Lists.{tabulate, same, count, ones}
 use Rattle.ladder.specs.Matrix.{Arrangement, order_from, step_order}
 use Rattle.ladder.specs.Encoding.{picked, passed, rearrange}
-use Rattle.ladder.proofs.Lists.{length-tabulate, get_d_tabulate, same_self, same_is, count-append, count_at, place, ones_le}
+use Rattle.ladder.proofs.Lists.{length-tabulate, get_or-tabulate, same_self, same_is, count-append, count_at, place, ones_le}
 use Rattle.ladder.proofs.Step.{length-step_order}
 
 -- ---- places of an arrangement
@@ -76,7 +76,7 @@ count_rising (suc n) a j f e =
 pub rising_arrangement : (d : ℕ) → Arrangement d (tabulate d (λ j. j))
 rising_arrangement d = record {
   long = length-tabulate d (λ j. j);
-  inside = λ k h. omega (arith, get_d_tabulate d (λ j. j) k 0 h);
+  inside = λ k h. omega (arith, get_or-tabulate d (λ j. j) k 0 h);
   once = λ j h. (count_rising d 0 j (λ k. k) (λ k. omega arith)).1 (omega arith) (omega arith);
 }
 

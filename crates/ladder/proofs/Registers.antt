@@ -13,7 +13,7 @@ use Rattle.ladder.specs.Lists.{tabulate, ones}
 use Rattle.ladder.specs.Matrix.{Row, Matrix, row, Arrangement, StateMatrix, add_rows, double_row, bump, rows_from, start_matrix, Pair, additions, step, matrix_after}
 use Rattle.ladder.specs.Trace.{difference, vector_of}
 use Rattle.ladder.specs.Registers.{Rule, step_registers, registers_after, modulus, sum_of, combination, times_signed, signed_sum, plain_rule, difference_rule, difference_add, start_from, start_registers}
-use Rattle.ladder.proofs.Lists.{get_d_map, map-map, map_same, ones_le}
+use Rattle.ladder.proofs.Lists.{get_or-map, map-map, map_same, ones_le}
 use Rattle.ladder.proofs.Step.{length-additions, no_pair}
 use Rattle.ladder.proofs.Ladder.{length-bump, state_after}
 use Rattle.ladder.proofs.Vectors.{sub_le, sub_lt, addition_apart, addition_inside}
@@ -31,12 +31,12 @@ pub record Respects {A : Type 0} (rule : Rule A) (d : ℕ) (value : Row → A) :
 module _ {A : Type 0} {rule : Rule A} {d : ℕ} {value : Row → A} (R : Respects rule d value) where
   held : {B : Matrix} {S : List ℕ} → StateMatrix d B S → (i : ℕ) → i ≤ d
       → get_or (map value B) i rule.none ≡ value (row B i)
-  held {B} M i h = get_d_map value B i [] rule.none (omega (arith, M.rows))
+  held {B} M i h = get_or-map value B i [] rule.none (omega (arith, M.rows))
 
-  value-sum : {B : Matrix} {S : List ℕ} → StateMatrix d B S → (p : Pair) → p.x < p.y → p.y ≤ d
+  value_sum : {B : Matrix} {S : List ℕ} → StateMatrix d B S → (p : Pair) → p.x < p.y → p.y ≤ d
       → rule.add (get_or (map value B) p.x rule.none) (get_or (map value B) p.y rule.none) (vector_of d B p)
       ≡ value (add_rows (row B p.x) (row B p.y))
-  value-sum {B} {S} M p h l =
+  value_sum {B} {S} M p h l =
       ap₂ (λ a b. rule.add a b (vector_of d B p)) (held M p.x (omega arith)) (held M p.y l) ∙ R.adds B S M p h l
 
   -- One step takes the values of a state matrix's rows to the values of the next one's.
@@ -52,7 +52,7 @@ module _ {A : Type 0} {rule : Rule A} {d : ℕ} {value : Row → A} (R : Respect
       (additions r) no_pair
       (λ i h.
       let b : i < length r = omega (arith, length-additions r) in
-      value-sum M (get_or (additions r) i no_pair) (addition_apart r i b) (omega (arith, addition_inside r i b)))
+      value_sum M (get_or (additions r) i no_pair) (addition_apart r i b) (omega (arith, addition_inside r i b)))
       ∙ sym (map-map value (λ p. add_rows (row B p.x) (row B p.y)) (additions r)))
 
   -- The registers after each step are the values of the rows, if they are at the start.

@@ -13,7 +13,7 @@ use lib.ListN.{length, get_or, set, length-set}
 use lib.Seq.{ext_get_or, get_or-set_same, get_or-set_other}
 use Rattle.ladder.specs.Lists.{count}
 use Rattle.ladder.specs.Matrix.{Matrix, entry, sign_of, signs_of, step, step_order, turn, step_signs}
-use Rattle.ladder.proofs.Lists.{length-tabulate, get_d_tabulate, same_is, count_at}
+use Rattle.ladder.proofs.Lists.{length-tabulate, get_or-tabulate, same_is, count_at}
 use Rattle.ladder.proofs.Step.{length-step_order}
 use Rattle.ladder.proofs.Order.{place_of}
 use Rattle.ladder.proofs.Stairs.{Stairs, next_even, stair_step, new_order}
@@ -80,14 +80,14 @@ length-signs_of d B = length-tabulate d (λ j. sign_of (entry B 0 j) (entry B d 
 
 pub get_or-signs_of : (d : ℕ) (B : Matrix) (j : ℕ) → j < d → get_or (signs_of d B) j (pos 0) ≡ sign_of (entry B 0 j) (entry B d j)
 unfolding signs_of
-get_or-signs_of d B j h = get_d_tabulate d (λ i. sign_of (entry B 0 i) (entry B d i)) j (pos 0) h
+get_or-signs_of d B j h = get_or-tabulate d (λ i. sign_of (entry B 0 i) (entry B d i)) j (pos 0) h
 
 module _ {d : ℕ} {B : Matrix} {S : List ℕ} (C : Stairs d B S) (r : List ℕ) (long : length r ≡ d) where
-  next-sign : (b e o : ℕ) → (o ≡ suc e) ⊎ (e ≡ suc o) → sign_of (next_even b e o) (e + o) ≡ turned b (sign_of e o)
-  next-sign zero e o (inl p) = sign_up (e + e) (e + o) (omega arith) ∙ sym (sign_up e o p)
-  next-sign zero e o (inr p) = sign_down (e + e) (e + o) (omega arith) ∙ sym (sign_down e o p)
-  next-sign (suc b) e o (inl p) = sign_down (o + o) (e + o) (omega arith) ∙ ap neg_ℤ (sym (sign_up e o p))
-  next-sign (suc b) e o (inr p) = sign_up (o + o) (e + o) (omega arith) ∙ ap neg_ℤ (sym (sign_down e o p))
+  next_sign : (b e o : ℕ) → (o ≡ suc e) ⊎ (e ≡ suc o) → sign_of (next_even b e o) (e + o) ≡ turned b (sign_of e o)
+  next_sign zero e o (inl p) = sign_up (e + e) (e + o) (omega arith) ∙ sym (sign_up e o p)
+  next_sign zero e o (inr p) = sign_down (e + e) (e + o) (omega arith) ∙ sym (sign_down e o p)
+  next_sign (suc b) e o (inl p) = sign_down (o + o) (e + o) (omega arith) ∙ ap neg_ℤ (sym (sign_up e o p))
+  next_sign (suc b) e o (inr p) = sign_up (o + o) (e + o) (omega arith) ∙ ap neg_ℤ (sym (sign_down e o p))
 
   sign_at : (k : ℕ) → k < d
       → get_or (signs_of d (step B r)) (get_or (step_order S r) k 0) (pos 0)
@@ -98,7 +98,7 @@ module _ {d : ℕ} {B : Matrix} {S : List ℕ} (C : Stairs d B S) (r : List ℕ)
       let st = stair_step C r long k h in
       get_or-signs_of d (step B r) j (new.inside k h)
       ∙ ap₂ sign_of (st.upper 0 (omega arith)) (st.lower d h (omega arith))
-      ∙ next-sign (get_or r k 0) (entry B 0 j) (entry B d j) (C.apart j (new.inside k h))
+      ∙ next_sign (get_or r k 0) (entry B 0 j) (entry B d j) (C.apart j (new.inside k h))
       ∙ ap (turned (get_or r k 0)) (sym (get_or-signs_of d B j (new.inside k h)))
       ∙ sym (turn_at (signs_of d B) (step_order S r) r k (length-step_order S r) (omega (arith, length-step_order S r))
       (new.once j (new.inside k h)) (omega (arith, length-signs_of d B, new.inside k h)))

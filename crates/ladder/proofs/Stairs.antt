@@ -69,24 +69,24 @@ module _ {d : ℕ} {B : Matrix} {S : List ℕ} (M : StateMatrix d B S) where
   stays : (k i : ℕ) → k < d → i < d → i ≢ k → entry B i (get_or S k 0) ≡ entry B (suc i) (get_or S k 0)
   stays k i h l n = (M.next i l).elsewhere (get_or S k 0) (λ e. n (place_once M.order i k l h (sym e)))
 
-  upper-part : (k : ℕ) → k < d → (i : ℕ) → i ≤ k → entry B i (get_or S k 0) ≡ entry B 0 (get_or S k 0)
-  upper-part k h zero l = refl
-  upper-part k h (suc i) l = sym (stays k i h (omega arith) (omega arith)) ∙ upper-part k h i (omega arith)
+  upper_part : (k : ℕ) → k < d → (i : ℕ) → i ≤ k → entry B i (get_or S k 0) ≡ entry B 0 (get_or S k 0)
+  upper_part k h zero l = refl
+  upper_part k h (suc i) l = sym (stays k i h (omega arith) (omega arith)) ∙ upper_part k h i (omega arith)
 
-  below-place : (k : ℕ) → k < d → (i : ℕ) → k < i → i ≤ d → entry B i (get_or S k 0) ≡ entry B (suc k) (get_or S k 0)
-  below-place k h zero l m = absurd (not-suc-le-zero l)
-  below-place k h (suc i) l m = go (ℕ_discrete i k) (λ q. below-place k h i q (omega arith))
+  below_place : (k : ℕ) → k < d → (i : ℕ) → k < i → i ≤ d → entry B i (get_or S k 0) ≡ entry B (suc k) (get_or S k 0)
+  below_place k h zero l m = absurd (not-suc-le-zero l)
+  below_place k h (suc i) l m = go (ℕ_discrete i k) (λ q. below_place k h i q (omega arith))
     where
       go : Dec (i ≡ k) → (k < i → entry B i (get_or S k 0) ≡ entry B (suc k) (get_or S k 0))
           → entry B (suc i) (get_or S k 0) ≡ entry B (suc k) (get_or S k 0)
       go (yes e) rest = ap (λ n. entry B (suc n) (get_or S k 0)) e
       go (no n) rest = sym (stays k i h m n) ∙ rest (omega arith)
 
-  apart-at : (k : ℕ) → k < d
+  apart_at : (k : ℕ) → k < d
       → (entry B d (get_or S k 0) ≡ suc (entry B 0 (get_or S k 0))) ⊎ (entry B 0 (get_or S k 0) ≡ suc (entry B d (get_or S k 0)))
-  apart-at k h =
-      let up = upper-part k h k (omega arith) in
-      let low = below-place k h d h (omega arith) in
+  apart_at k h =
+      let up = upper_part k h k (omega arith) in
+      let low = below_place k h d h (omega arith) in
       ⊎_elim (λ e. inl (low ∙ e ∙ ap suc up)) (λ e. inr (sym up ∙ e ∙ ap suc (sym low))) (M.next k h).here
 
   -- The columns of a state matrix are stairs.
@@ -96,13 +96,13 @@ module _ {d : ℕ} {B : Matrix} {S : List ℕ} (M : StateMatrix d B S) where
     wide = M.wide;
     order = M.order;
     stair = λ k h. record {
-      upper = upper-part k h;
-      lower = λ i l m. below-place k h i l m ∙ sym (below-place k h d h (omega arith));
+      upper = upper_part k h;
+      lower = λ i l m. below_place k h i l m ∙ sym (below_place k h d h (omega arith));
     };
     even = odds_none (row B 0) (M.odd 0 (omega arith));
     apart = λ j h.
         let p = place_of M.order j h in
-        subst (λ c. (entry B d c ≡ suc (entry B 0 c)) ⊎ (entry B 0 c ≡ suc (entry B d c))) p.2 (apart-at p.0 p.1);
+        subst (λ c. (entry B d c ≡ suc (entry B 0 c)) ⊎ (entry B 0 c ≡ suc (entry B d c))) p.2 (apart_at p.0 p.1);
   }
 
 -- ---- and back
@@ -114,8 +114,8 @@ odd_below e o h (inr p) = omega arith
 
 module _ {d : ℕ} {B : Matrix} {S : List ℕ} (C : Stairs d B S) where
   -- Where row k goes over to the next, the column at place k goes from its even to its odd entry, and the others stay.
-  other-columns : (k : ℕ) → k < d → (i : ℕ) → i ≢ get_or S k 0 → entry B k i ≡ entry B (suc k) i
-  other-columns k h i n = go (dec_le (suc i) d)
+  other_columns : (k : ℕ) → k < d → (i : ℕ) → i ≢ get_or S k 0 → entry B k i ≡ entry B (suc k) i
+  other_columns k h i n = go (dec_le (suc i) d)
     where
       at : (m : ℕ) → m < d → get_or S m 0 ≡ i → Dec (k ≤ m) → entry B k i ≡ entry B (suc k) i
       at m l e (yes q) =
@@ -135,25 +135,25 @@ module _ {d : ℕ} {B : Matrix} {S : List ℕ} (C : Stairs d B S) where
           get_or-eq_default (row B k) 0 (omega (arith, C.wide k (omega arith)))
           ∙ sym (get_or-eq_default (row B (suc k)) 0 (omega (arith, C.wide (suc k) h)))
 
-  odd-rows : (i : ℕ) → i ≤ d → odds (row B i) ≡ i
-  odd-rows zero h = none_odds (row B 0) C.even
-  odd-rows (suc k) h =
+  odd_rows : (i : ℕ) → i ≤ d → odds (row B i) ≡ i
+  odd_rows zero h = none_odds (row B 0) C.even
+  odd_rows (suc k) h =
       let j = get_or S k 0 in
       let st = C.stair k h in
       odds_more (row B k) (row B (suc k)) j (C.wide k (omega arith) ∙ sym (C.wide (suc k) h))
       (omega (arith, C.wide k (omega arith), C.order.inside k h))
-      (other-columns k h)
+      (other_columns k h)
       (ap (λ n. n % 2) (st.upper k (omega arith)) ∙ C.even j)
       (ap (λ n. n % 2) (st.lower (suc k) (omega arith) h)
       ∙ odd_below (entry B 0 j) (entry B d j) (C.even j) (C.apart j (C.order.inside k h)))
-      ∙ ap suc (odd-rows k (omega arith))
+      ∙ ap suc (odd_rows k (omega arith))
 
   -- Stairs at every place make a state matrix.
   pub from_stairs : StateMatrix d B S
   from_stairs = record {
     rows = C.rows;
     wide = C.wide;
-    odd = odd-rows;
+    odd = odd_rows;
     next = λ k h. record {
       here =
           let st = C.stair k h in
@@ -161,7 +161,7 @@ module _ {d : ℕ} {B : Matrix} {S : List ℕ} (C : Stairs d B S) where
           (λ e. inl (st.lower (suc k) (omega arith) h ∙ e ∙ ap suc (sym (st.upper k (omega arith)))))
           (λ e. inr (st.upper k (omega arith) ∙ e ∙ ap suc (sym (st.lower (suc k) (omega arith) h))))
           (C.apart (get_or S k 0) (C.order.inside k h));
-      elsewhere = other-columns k h;
+      elsewhere = other_columns k h;
     };
     order = C.order;
   }
@@ -175,8 +175,8 @@ next_even (suc b) e o = o + o
 
 module _ {d : ℕ} {B : Matrix} {S : List ℕ} (C : Stairs d B S) (r : List ℕ) (long : length r ≡ d) where
   -- A column that goes from place row_x r (k+1) to place k, whose bit is 1.
-  stair-one : (k j e o : ℕ) → k < d → 0 < get_or r k 0 → Stair d B j (row_x r (suc k)) e o → Stair d (step B r) j k (o + o) (e + o)
-  stair-one k j e o h b st =
+  stair_one : (k j e o : ℕ) → k < d → 0 < get_or r k 0 → Stair d B j (row_x r (suc k)) e o → Stair d (step B r) j k (o + o) (e + o)
+  stair_one k j e o h b st =
       let here = ones_to_one r k (omega arith) b in
       let most = (ones_to_between r (suc k) (length r) (omega arith)).0 in
       record {
@@ -195,8 +195,8 @@ module _ {d : ℕ} {B : Matrix} {S : List ℕ} (C : Stairs d B S) (r : List ℕ)
       }
 
   -- A column that goes from place row_y r k to place k, whose bit is 0.
-  stair-zero : (k j e o : ℕ) → k < d → get_or r k 0 ≡ 0 → Stair d B j (row_y r k) e o → Stair d (step B r) j k (e + e) (e + o)
-  stair-zero k j e o h b st =
+  stair_zero : (k j e o : ℕ) → k < d → get_or r k 0 ≡ 0 → Stair d B j (row_y r k) e o → Stair d (step B r) j k (e + e) (e + o)
+  stair_zero k j e o h b st =
       let here = ones_to_zero r k (omega arith) b in
       record {
         upper = λ i l.
@@ -231,13 +231,13 @@ module _ {d : ℕ} {B : Matrix} {S : List ℕ} (C : Stairs d B S) (r : List ℕ)
       go zero e =
           subst (λ j. Stair d (step B r) j k (entry B 0 j + entry B 0 j) (entry B 0 j + entry B d j))
           (sym (step_order_zero S r k (omega arith) e))
-          (stair-zero k (get_or S (row_y r k) 0) (entry B 0 (get_or S (row_y r k) 0)) (entry B d (get_or S (row_y r k) 0)) h e
+          (stair_zero k (get_or S (row_y r k) 0) (entry B 0 (get_or S (row_y r k) 0)) (entry B d (get_or S (row_y r k) 0)) h e
           (C.stair (row_y r k)
           (omega (arith, ones_to_zero r k (omega arith) e, ones_to_le r k, row_y_inside r (suc k) (omega arith)))))
       go (suc b) e =
           subst (λ j. Stair d (step B r) j k (entry B d j + entry B d j) (entry B 0 j + entry B d j))
           (sym (step_order_one S r k (omega arith) (omega arith)))
-          (stair-one k (get_or S (row_x r (suc k)) 0) (entry B 0 (get_or S (row_x r (suc k)) 0)) (entry B d (get_or S (row_x r (suc k)) 0))
+          (stair_one k (get_or S (row_x r (suc k)) 0) (entry B 0 (get_or S (row_x r (suc k)) 0)) (entry B d (get_or S (row_x r (suc k)) 0))
           h (omega arith)
           (C.stair (row_x r (suc k))
           (omega (
@@ -267,23 +267,23 @@ module _ {d : ℕ} {B : Matrix} {S : List ℕ} (C : Stairs d B S) (r : List ℕ)
         let e = entry-step B r 0 j (omega arith) in
         let s : row_x r 0 ≡ row_y r 0 = omega (arith, ones_to_le r 0) in
         omega (arith, e, ap (λ i. entry B i j) s);
-    apart = λ j h. let p = place_of new_order j h in subst Apart p.2 (apart-new p.0 p.1);
+    apart = λ j h. let p = place_of new_order j h in subst Apart p.2 (apart_new p.0 p.1);
   }
     where
       Apart : ℕ → Type 0
       Apart j = (entry (step B r) d j ≡ suc (entry (step B r) 0 j)) ⊎ (entry (step B r) 0 j ≡ suc (entry (step B r) d j))
 
-      next-apart : (b e o : ℕ) → (o ≡ suc e) ⊎ (e ≡ suc o) → (e + o ≡ suc (next_even b e o)) ⊎ (next_even b e o ≡ suc (e + o))
-      next-apart zero e o (inl p) = inl (omega arith)
-      next-apart zero e o (inr p) = inr (omega arith)
-      next-apart (suc b) e o (inl p) = inr (omega arith)
-      next-apart (suc b) e o (inr p) = inl (omega arith)
+      next_apart : (b e o : ℕ) → (o ≡ suc e) ⊎ (e ≡ suc o) → (e + o ≡ suc (next_even b e o)) ⊎ (next_even b e o ≡ suc (e + o))
+      next_apart zero e o (inl p) = inl (omega arith)
+      next_apart zero e o (inr p) = inr (omega arith)
+      next_apart (suc b) e o (inl p) = inr (omega arith)
+      next_apart (suc b) e o (inr p) = inl (omega arith)
 
-      apart-new : (k : ℕ) → k < d → Apart (get_or (step_order S r) k 0)
-      apart-new k h =
+      apart_new : (k : ℕ) → k < d → Apart (get_or (step_order S r) k 0)
+      apart_new k h =
           let j = get_or (step_order S r) k 0 in
           let st = stair_step k h in
           let low = st.lower d h (omega arith) in
           let up = st.upper 0 (omega arith) in
           ⊎_elim (λ e. inl (low ∙ e ∙ ap suc (sym up))) (λ e. inr (up ∙ e ∙ ap suc (sym low)))
-          (next-apart (get_or r k 0) (entry B 0 j) (entry B d j) (C.apart j (new_order.inside k h)))
+          (next_apart (get_or r k 0) (entry B 0 j) (entry B d j) (C.apart j (new_order.inside k h)))

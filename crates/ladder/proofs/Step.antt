@@ -11,7 +11,7 @@ use lib.ListN.{length, get_or, take, length-map}
 use lib.Seq.{take-length}
 use Rattle.ladder.specs.Lists.{ones}
 use Rattle.ladder.specs.Matrix.{Row, Matrix, row, entry, add_rows, double_row, Pair, pairs_from, additions, step, order_from, step_order}
-use Rattle.ladder.proofs.Lists.{get_d_map, ones_le}
+use Rattle.ladder.proofs.Lists.{get_or-map, ones_le}
 
 -- ---- ones among the first bits
 
@@ -149,7 +149,7 @@ pub row-step-suc : (B : Matrix) (r : List ℕ) (i : ℕ) → i < length r
     → row (step B r) (suc i) ≡ add_rows (row B (row_x r (suc i))) (row B (row_y r (suc i)))
 unfolding step
 row-step-suc B r i h =
-    get_d_map (λ p. add_rows (row B p.x) (row B p.y)) (additions r) i no_pair [] (omega (arith, length-additions r))
+    get_or-map (λ p. add_rows (row B p.x) (row B p.y)) (additions r) i no_pair [] (omega (arith, length-additions r))
     ∙ ap₂ (λ a b. add_rows (row B a) (row B b)) (additions_x r i no_pair h) (additions_y r i no_pair h)
 
 pub entry-step : (B : Matrix) (r : List ℕ) (i j : ℕ) → i ≤ length r

@@ -16,7 +16,7 @@ use lib.Seq.{get_or-drop}
 use Rattle.ladder.specs.Lists.{tabulate, same, count, all}
 use Rattle.ladder.specs.Matrix.{OrderOk, IsUnit, Units}
 use Rattle.ladder.specs.Refusals.{◌then◌, refusing, unless, within, each_once, is_arrangement, is_unit, all_units, is_zero}
-use Rattle.ladder.proofs.Lists.{length-tabulate, get_d_tabulate, get_d_map}
+use Rattle.ladder.proofs.Lists.{length-tabulate, get_or-tabulate, get_or-map}
 
 -- ---- tests and their order
 
@@ -202,7 +202,7 @@ pub order_at : {d : ℕ} (S : List ℕ) → OrderOk d S → (k : ℕ) → k < d
     → (1 ≤ get_or S k 0) × (get_or S k 0 - 1 ≡ get_or (map pred S) k 0) × (get_or (map pred S) k 0 < d)
 order_at S o k h =
     let one : get_or S k 0 ≡ suc (get_or (map pred S) k 0) =
-    ap (λ l. get_or l k 0) o.counted ∙ get_d_map suc (map pred S) k 0 0 (omega (arith, o.columns.long)) in
+    ap (λ l. get_or l k 0) o.counted ∙ get_or-map suc (map pred S) k 0 0 (omega (arith, o.columns.long)) in
     (omega arith, omega arith, o.columns.inside k h)
 
 -- Columns counted from 1 occur as often as those counted from 0.
@@ -227,7 +227,7 @@ is_arrangement_says d S =
           record {
             columns = record {
               long = length-map S pred ∙ t.0.0;
-              inside = λ k h. rw (ListN.get_d_map pred S k 0) (omega (arith, t.0.1 k (omega (arith, t.0.0))));
+              inside = λ k h. rw (ListN.get_or-map pred S k 0) (omega (arith, t.0.1 k (omega (arith, t.0.0))));
               once = λ j h. sym (count-suc j (map pred S)) ∙ ap (count (suc j)) (sym counted) ∙ t.1 j h;
             };
             counted = counted;
@@ -241,7 +241,7 @@ is_arrangement_says d S =
   where
     at : OrderOk d S → (j : ℕ) → j < length S → get_or S j 0 ≡ suc (get_or (map pred S) j 0)
     at ok j h =
-        ap (λ l. get_or l j 0) ok.counted ∙ get_d_map suc (map pred S) j 0 0 (omega (arith, length-map S pred))
+        ap (λ l. get_or l j 0) ok.counted ∙ get_or-map suc (map pred S) j 0 0 (omega (arith, length-map S pred))
 
 -- ---- signs
 
@@ -259,24 +259,24 @@ unfolding all_units
 all_units_says d signs =
     let sign : ℕ → ℤ = λ j. get_or signs j (pos 0) in
     reworded (all_says is_unit (pos 0) (tabulate d sign) is_unit_says) (
-      λ f j h. rw (get_d_tabulate d sign j (pos 0) h) at (f j (omega (arith, length-tabulate d sign))),
+      λ f j h. rw (get_or-tabulate d sign j (pos 0) h) at (f j (omega (arith, length-tabulate d sign))),
       λ f j h.
           let b : j < d = omega (arith, length-tabulate d sign) in
-          rw (get_d_tabulate d sign j (pos 0) b) (f j b),
+          rw (get_or-tabulate d sign j (pos 0) b) (f j b),
     )
 
 -- .. so there are as many: one that the list lacks counts as 0.
 pub units_long : (d : ℕ) (signs : List ℤ) → Units d signs → d ≤ length signs
 units_long d signs u = go (dec_le d (length signs))
   where
-    zero-no-unit : IsUnit (pos 0) → ⊥
-    zero-no-unit (inl e) = omega (arith, ap nat_abs e)
-    zero-no-unit (inr e) = pos-ne-negsuc 0 0 e
+    zero_no_unit : IsUnit (pos 0) → ⊥
+    zero_no_unit (inl e) = omega (arith, ap nat_abs e)
+    zero_no_unit (inr e) = pos-ne-negsuc 0 0 e
 
     go : Dec (d ≤ length signs) → d ≤ length signs
     go (yes h) = h
     go (no h) =
-        absurd (zero-no-unit (subst IsUnit (get_or-eq_default signs (pos 0) (omega arith)) (u (length signs) (omega arith))))
+        absurd (zero_no_unit (subst IsUnit (get_or-eq_default signs (pos 0) (omega arith)) (u (length signs) (omega arith))))
 
 -- A sign is 0.
 pub is_zero_says : (s : ℤ) → Says (is_zero s) (s ≡ pos 0)

@@ -14,7 +14,7 @@ use Rattle.ladder.specs.Plan.{Plan, start_order, step_bits, answer_row}
 use Rattle.ladder.specs.PlanFile.{plan_in}
 use Rattle.ladder.specs.Refusals.{◌then◌, refusing, list_refusal}
 use Rattle.ladder.specs.Listing.{digits_within, digits_of, character, decimal, hexadecimal, spaced, line, plan_word, start_word, value_word, refused_word, plan_line, start_line, step_line, value_line, plan_text, refused_text, listing_text}
-use Rattle.ladder.proofs.Lists.{get_d_map, length-joined_mono}
+use Rattle.ladder.proofs.Lists.{get_or-map, length-joined_mono}
 use Rattle.ladder.proofs.Bits.{length-step_bits}
 use Rattle.ladder.proofs.Refusals.{Accepted, dim_is, len_is, order_is, answer_is, trailer_is, distance_is, big_is}
 use Rattle.ladder.proofs.Chains.{read_chain, unpack_chain, list_chain}
@@ -78,9 +78,9 @@ length-line first fields = omega (arith, length-append first (spaced fields ++ (
 
 module _ (p : Plan) (ok : Accepted p) where
   -- `plan 8 576 9`
-  plan-line : length (plan_line p) ≤ 13
+  plan_line_lem : length (plan_line p) ≤ 13
   unfolding plan_line plan_word
-  plan-line =
+  plan_line_lem =
       omega (
         arith,
         ok.d_high,
@@ -105,13 +105,13 @@ module _ (p : Plan) (ok : Accepted p) where
         ok.d_high,
         ok.start.inside i (omega (arith, ok.start.long)),
         ap (λ S. get_or S i 0) ok.columns,
-        get_d_map suc (start_order p) i 0 0 inside,
+        get_or-map suc (start_order p) i 0 0 inside,
       )
 
   -- `start 1 2 3 4 5 6 7 8`
-  start-line : length (start_line p) ≤ 22
+  start_line_lem : length (start_line p) ≤ 22
   unfolding start_line start_word
-  start-line =
+  start_line_lem =
       omega (
         arith,
         ok.d_high,
@@ -122,12 +122,12 @@ module _ (p : Plan) (ok : Accepted p) where
       )
     where
       digit : (i : ℕ) → i < length p.start → length (get_or (map decimal p.start) i []) ≤ 1
-      digit i h = rw (get_d_map decimal p.start i 0 [] h) (length-decimal 0 (get_or p.start i 0) (column i h))
+      digit i h = rw (get_or-map decimal p.start i 0 [] h) (length-decimal 0 (get_or p.start i 0) (column i h))
 
   -- A step's line is its number and ten characters more at the most.
-  step_line : (s : ℕ) → length (step_line p s) ≤ length (decimal (suc s)) + 10
+  step_line_lem : (s : ℕ) → length (step_line p s) ≤ length (decimal (suc s)) + 10
   unfolding step_line
-  step_line s =
+  step_line_lem s =
       omega (
         arith,
         ok.d_high,
@@ -144,16 +144,16 @@ module _ (p : Plan) (ok : Accepted p) where
   step_lines (suc l) =
       omega (
         arith,
-        step_line l,
+        step_line_lem l,
         step_lines l,
         length-append (joined l (step_line p)) (step_line p l),
         length-append (joined l (λ s. decimal (suc s))) (decimal (suc l)),
       )
 
   -- `value` and the entries.
-  value_line : length (value_line p) ≤ 1174
+  value_line_lem : length (value_line p) ≤ 1174
   unfolding value_line value_word
-  value_line =
+  value_line_lem =
       omega (
         arith,
         ok.d_high,
@@ -165,7 +165,7 @@ module _ (p : Plan) (ok : Accepted p) where
     where
       entry : (i : ℕ) → i < length (answer_row p) → length (get_or (map hexadecimal (answer_row p)) i []) ≤ 145
       entry i h =
-          rw (get_d_map hexadecimal (answer_row p) i 0 [] h)
+          rw (get_or-map hexadecimal (answer_row p) i 0 [] h)
           (length-hexadecimal 144 p.l (get_or (answer_row p) i 0) (omega (arith, ok.l_high)) (answer_bound p ok i))
 
 -- The numbers 1 to 576 have 1,620 digits.
@@ -186,12 +186,12 @@ plan_text_fits p ok =
       length-append (plan_line p) (start_line p ++ (steps ++ value_line p)),
       length-append (start_line p) (steps ++ value_line p),
       length-append steps (value_line p),
-      plan-line p ok,
-      start-line p ok,
+      plan_line_lem p ok,
+      start_line_lem p ok,
       step_lines p ok p.l,
       length-joined_mono (λ s. decimal (suc s)) p.l 576 ok.l_high,
       all_numbers,
-      value_line p ok,
+      value_line_lem,
     )
 
 -- The listing of a refusal.

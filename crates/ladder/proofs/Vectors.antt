@@ -15,7 +15,7 @@ use lib.Seq.{ext_get_or, get_or-set_same, get_or-set_other}
 use Rattle.ladder.specs.Lists.{ones}
 use Rattle.ladder.specs.Matrix.{Matrix, entry, StateMatrix, sign_of, signs_of, Pair, additions, step_order, IsUnit, IsSmall}
 use Rattle.ladder.specs.Trace.{difference, vector_of, operations}
-use Rattle.ladder.proofs.Lists.{length-tabulate, get_d_tabulate}
+use Rattle.ladder.proofs.Lists.{length-tabulate, get_or-tabulate}
 use Rattle.ladder.proofs.Step.{ones_to_le, ones_to_between, ones_to_all, ones_to_one, ones_to_zero, row_x, row_y, row_y_inside, additions_x, additions_y, step_order_one, step_order_zero, no_pair}
 use Rattle.ladder.proofs.Order.{place_of, place_once}
 use Rattle.ladder.proofs.Stairs.{stairs}
@@ -54,7 +54,7 @@ length_vector d B p = length-tabulate d (λ j. sub_ℕ (entry B p.y j) (entry B 
 vector_at : (d : ℕ) (B : Matrix) (p : Pair) (j : ℕ) → j < d
     → get_or (vector_of d B p) j (pos 0) ≡ sub_ℕ (entry B p.y j) (entry B p.x j)
 unfolding vector_of difference
-vector_at d B p j h = get_d_tabulate d (λ i. sub_ℕ (entry B p.y i) (entry B p.x i)) j (pos 0) h
+vector_at d B p j h = get_or-tabulate d (λ i. sub_ℕ (entry B p.y i) (entry B p.x i)) j (pos 0) h
 
 -- A doubling's vector is all zero, of any matrix.
 pub vector_doubling : (d : ℕ) (B : Matrix) (i j : ℕ) → j < d → get_or (vector_of d B (record { x = i; y = i })) j (pos 0) ≡ pos 0
@@ -89,8 +89,8 @@ module _ {d : ℕ} {B : Matrix} {S : List ℕ} (M : StateMatrix d B S) (p : Pair
       ∙ sub_same (entry B p.y (get_or S k 0)) (entry B p.x (get_or S k 0))
       (((stairs M).stair k b).upper p.y h ∙ sym (((stairs M).stair k b).upper p.x (omega arith)))
 
-  between-unit : (k : ℕ) → p.x ≤ k → k < p.y → IsUnit (get_or (vector_of d B p) (get_or S k 0) (pos 0))
-  between-unit k above below =
+  between_unit : (k : ℕ) → p.x ≤ k → k < p.y → IsUnit (get_or (vector_of d B p) (get_or S k 0) (pos 0))
+  between_unit k above below =
       let j = get_or S k 0 in
       let column = M.order.inside k (omega arith) in
       subst IsUnit (sym (vector_between k above below ∙ get_or-signs_of d B j column))
@@ -104,7 +104,7 @@ module _ {d : ℕ} {B : Matrix} {S : List ℕ} (M : StateMatrix d B S) (p : Pair
   vector_small j = go (dec_le (suc j) d)
     where
       at : (k : ℕ) → k < d → Dec (p.x ≤ k) → Dec (suc k ≤ p.y) → IsSmall (get_or (vector_of d B p) (get_or S k 0) (pos 0))
-      at k h (yes a) (yes b) = inr (between-unit k a b)
+      at k h (yes a) (yes b) = inr (between_unit k a b)
       at k h (yes a) (no b) = inl (vector_below k (omega arith) h)
       at k h (no a) b = inl (vector_above k (omega arith))
 
@@ -116,7 +116,7 @@ module _ {d : ℕ} {B : Matrix} {S : List ℕ} (M : StateMatrix d B S) (p : Pair
 
   -- .. and where the two rows are two, not all of them are 0.
   pub vector_not_zero : p.x < p.y → (j : ℕ) × (j < d) × IsUnit (get_or (vector_of d B p) j (pos 0))
-  vector_not_zero h = (get_or S p.x 0, M.order.inside p.x (omega arith), between-unit p.x (omega arith) h)
+  vector_not_zero h = (get_or S p.x 0, M.order.inside p.x (omega arith), between_unit p.x (omega arith) h)
 
 -- ---- the rows of a step's operations
 
@@ -153,10 +153,10 @@ addition_inside r i h = omega (arith, additions_y r i no_pair h, row_y_inside r 
 
 module _ {d : ℕ} {B : Matrix} {S : List ℕ} (M : StateMatrix d B S) where
   -- Where the rows of q have those of p between them and one place more, k, the column there has its sign filled in.
-  vector-wider : (p q : Pair) → p.x ≤ p.y → q.y ≤ d → q.x ≤ p.x → p.y ≤ q.y → (k : ℕ) → q.x ≤ k → k < q.y
+  vector_wider : (p q : Pair) → p.x ≤ p.y → q.y ≤ d → q.x ≤ p.x → p.y ≤ q.y → (k : ℕ) → q.x ≤ k → k < q.y
       → ((m : ℕ) → m ≢ k → q.x ≤ m → m < q.y → (p.x ≤ m) × (m < p.y))
       → vector_of d B q ≡ set (vector_of d B p) (get_or S k 0) (get_or (signs_of d B) (get_or S k 0) (pos 0))
-  vector-wider p q up inside left right k above below others =
+  vector_wider p q up inside left right k above below others =
       ext_get_or (pos 0) (vector_of d B q) (set (vector_of d B p) j s)
       (length_vector d B q ∙ sym (length-set (vector_of d B p) j s ∙ length_vector d B p))
       (λ c l.
@@ -220,7 +220,7 @@ module _ {d : ℕ} {B : Matrix} {S : List ℕ} (M : StateMatrix d B S) where
           let y : (operation r (suc i)).y ≡ suc (operation r i).y =
           omega (arith, operation_y r i (omega arith), operation_y r (suc i) b, ones_to_le r i) in
           subst (λ (j : ℕ). Filled j) (ap (λ k. get_or S k 0) (operation_y r i (omega arith)) ∙ sym (step_order_zero S r i b e))
-          (vector-wider (operation r i) (operation r (suc i)) in_order inside (omega arith) (omega arith) (operation r i).y
+          (vector_wider (operation r i) (operation r (suc i)) in_order inside (omega arith) (omega arith) (operation r i).y
           (omega (arith, in_order)) (omega arith) (λ m n p q. (omega arith, omega arith)))
       go (no e) =
           let ones-grow = ones_to_one r i b (omega arith) in
@@ -229,5 +229,5 @@ module _ {d : ℕ} {B : Matrix} {S : List ℕ} (M : StateMatrix d B S) where
           omega (arith, operation_x r i (omega arith), operation_x r (suc i) b, ones_to_all r) in
           let y : (operation r (suc i)).y ≡ (operation r i).y = omega (arith, operation_y r i (omega arith), operation_y r (suc i) b) in
           subst (λ (j : ℕ). Filled j) (ap (λ k. get_or S k 0) (operation_x r (suc i) b) ∙ sym (step_order_one S r i b (omega arith)))
-          (vector-wider (operation r i) (operation r (suc i)) in_order inside (omega arith) (omega arith) (operation r (suc i)).x
+          (vector_wider (operation r i) (operation r (suc i)) in_order inside (omega arith) (omega arith) (operation r (suc i)).x
           (omega arith) (omega (arith, in_order)) (λ m n p q. (omega arith, omega arith)))

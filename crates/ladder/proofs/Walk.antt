@@ -13,7 +13,7 @@ use lib.Pow.{high, low, field, mod-mod-pow}
 use Rattle.ladder.specs.Lists.{tabulate}
 use Rattle.ladder.specs.Matrix.{step_order, step_signs, start_signs, order_after, signs_after}
 use Rattle.ladder.specs.Walk.{Walk, bits_of, walk_of, order_of, walk_signs, step_walk}
-use Rattle.ladder.proofs.Lists.{length-tabulate, get_d_tabulate, tabulate-same}
+use Rattle.ladder.proofs.Lists.{length-tabulate, get_or-tabulate, tabulate-same}
 use Rattle.ladder.proofs.Step.{length-step_order}
 use Rattle.ladder.proofs.Signs.{length-turn}
 
@@ -58,7 +58,7 @@ length-bits_of d n = length-tabulate d (λ k. n / 2 ^ (d - suc k) % 2)
 -- .. the first of the highest weight.
 pub get_or-bits_of : (d n k : ℕ) → k < d → get_or (bits_of d n) k 0 ≡ n / 2 ^ (d - suc k) % 2
 unfolding bits_of
-get_or-bits_of d n k h = get_d_tabulate d (λ i. n / 2 ^ (d - suc i) % 2) k 0 h
+get_or-bits_of d n k h = get_or-tabulate d (λ i. n / 2 ^ (d - suc i) % 2) k 0 h
 
 -- The number of the bits r, its first bit the highest.
 unfoldable pub number_of_bits : List ℕ → ℕ

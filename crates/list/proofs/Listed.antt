@@ -28,24 +28,24 @@ module _ {file text : List ℕ} {r : Listed} {after : List ℕ} (promise : Listi
   number_is = promise.refusal_is ∙ ap (λ n. big file then n) (then_next _ (unpack_refusal file) ((shape_none text longest_text).1 room))
 
   module _ (some : r.refusal ≢ 0) where
-    line-is : refused_text r.refusal ≡ listing_text file
+    line_is : refused_text r.refusal ≡ listing_text file
     unfolding listing_text
-    line-is = ap refused_text number_is ∙ sym (refusing_yes (list_refusal file) _ _ (λ z. some (number_is ∙ z)))
+    line_is = ap refused_text number_is ∙ sym (refusing_yes (list_refusal file) _ _ (λ z. some (number_is ∙ z)))
 
     -- .. it is small, and its line fits ..
     pub line_fits : (r.refusal < 1000) × Fits after 0 (refused_text r.refusal)
     line_fits = (
       omega (arith, number_is, list_refusal_small file),
-      omega (arith, ap length line-is, listing_fits file, room, ap length (listing_refused promise some).1),
+      omega (arith, ap length line_is, listing_fits file, room, ap length (listing_refused promise some).1),
     )
 
     -- .. and is what is written.
     pub line_written : {textAfter : List ℕ} {next : ℕ} → Put after 0 (refused_text r.refusal) textAfter next → Written file text next textAfter
     line_written put = record {
-      size_is = put.place ∙ zero-add _ ∙ ap length line-is;
+      size_is = put.place ∙ zero-add _ ∙ ap length line_is;
       text_is =
           put.wrote
-          ∙ rw (line-is, (listing_refused promise some).1)
+          ∙ rw (line_is, (listing_refused promise some).1)
           (sets-eq (listing_text file) text 0 (omega (arith, listing_fits file, room)) ∙ rw (zero-add (length (listing_text file))));
     }
 

@@ -33,11 +33,11 @@ module _ {p : Plan} {m : ℕ} {elements registers : List ℕ} (ok : RunOk p m el
   }
 
   -- .. and end in the plan's registers, which are the rows' combinations.
-  plain-after : (regs : List ℕ)
+  plain_after : (regs : List ℕ)
       → ((S : List ℕ) → regs ≡ registers_after (plain_rule m) p.d S (bits_at p.d p.bits) (take (p.d + 1) first) p.l)
       → regs ≡ plain_registers p m elements p.l
   unfolding plain_registers
-  plain-after regs ran =
+  plain_after regs ran =
       ran (start_order p)
       ∙ ap (λ s. registers_after (plain_rule m) p.d (start_order p) (bits_at p.d p.bits) s p.l)
       (ap (λ n. take n first) (add-one p.d) ∙ first_is ok words first begun)
@@ -46,4 +46,4 @@ module _ {p : Plan} {m : ℕ} {elements registers : List ℕ} (ok : RunOk p m el
       → ((S : List ℕ) → regs ≡ registers_after (plain_rule m) p.d S (bits_at p.d p.bits) (take (p.d + 1) first) p.l)
       → regs ≡ map (combination m elements) (last_matrix p)
   unfolding last_matrix
-  plain_ran regs ran = plain-after regs ran ∙ registers_in p ok.plan.plan m elements p.l
+  plain_ran regs ran = plain_after regs ran ∙ registers_in p ok.plan.plan m elements p.l

@@ -35,31 +35,31 @@ last_same p q e = same_matrix p q e p.l (omega arith) ∙ ap (matrix_in q) e.l
 
 module _ {p q : Plan} (e : SamePlan p q) (shapes : plan_shape p ≡ plan_shape q) (reads : read_refusal p ≡ read_refusal q) where
   -- They are refused alike, whatever else is lent ..
-  refused-alike : (others : ℕ → ℕ → ℕ) → loose_refusal p (others p.d p.l) ≡ loose_refusal q (others q.d q.l)
+  refused_alike : (others : ℕ → ℕ → ℕ) → loose_refusal p (others p.d p.l) ≡ loose_refusal q (others q.d q.l)
   unfolding loose_refusal plan_refusal
-  refused-alike others = rw (shapes, reads, e.d, e.l)
+  refused_alike others = rw (shapes, reads, e.d, e.l)
 
-  run-refused-alike : (m : ℕ) (elements registers : List ℕ) → run_refusal p m elements registers ≡ run_refusal q m elements registers
+  run_refused_alike : (m : ℕ) (elements registers : List ℕ) → run_refusal p m elements registers ≡ run_refusal q m elements registers
   unfolding run_refusal
-  run-refused-alike m elements registers =
+  run_refused_alike m elements registers =
       ap (λ n. n then too_large m then element m elements)
-      (refused-alike (λ d l. shape elements (elements_length d) then shape registers (registers_length d)))
+      (refused_alike (λ d l. shape elements (elements_length d) then shape registers (registers_length d)))
 
   -- .. so what one promises the other does: of decode ..
-  decode-moved : {values : List ℕ} {r : ℕ} {valuesAfter : List ℕ} → DecodePromise q values r valuesAfter → DecodePromise p values r valuesAfter
+  decode_moved : {values : List ℕ} {r : ℕ} {valuesAfter : List ℕ} → DecodePromise q values r valuesAfter → DecodePromise p values r valuesAfter
   unfolding decode_refusal values_in
-  decode-moved {values} {r} x = record {
-    refusal_is = x.refusal_is ∙ sym (refused-alike (λ d l. shape values (values_length d l)));
+  decode_moved {values} {r} x = record {
+    refusal_is = x.refusal_is ∙ sym (refused_alike (λ d l. shape values (values_length d l)));
     values_are = x.values_are ∙ ap (refusing r values) (sym (ap₂ (λ l row. words_of_all (value_words l) row) e.l (same_answer p q e)));
   }
 
   -- .. of trace ..
-  trace-moved : {trace : List ℕ} {r : Traced} {traceAfter : List ℕ} → TracePromise q trace r traceAfter → TracePromise p trace r traceAfter
+  trace_moved : {trace : List ℕ} {r : Traced} {traceAfter : List ℕ} → TracePromise q trace r traceAfter → TracePromise p trace r traceAfter
   unfolding trace_refusal
-  trace-moved {trace} {r} x =
+  trace_moved {trace} {r} x =
       let same = sym (same_trace p q e) in
       record {
-        refusal_is = x.refusal_is ∙ sym (refused-alike (λ d l. shape trace (trace_length d l)));
+        refusal_is = x.refusal_is ∙ sym (refused_alike (λ d l. shape trace (trace_length d l)));
         doublings_are = x.doublings_are ∙ ap (λ es. refusing r.refusal 0 (doublings es)) same;
         additions_are = x.additions_are ∙ ap (λ es. refusing r.refusal 0 (addition_count es)) same;
         trace_is = x.trace_is ∙ ap (λ es. refusing r.refusal trace (trace_bytes es)) same;
@@ -122,12 +122,12 @@ module _ {f g : List ℕ} {u v : Unpacked} (answered : UnpackPromise f u) (answe
   -- .. so decode answers and writes the same ..
   pub files_decode : {values : List ℕ} {r s : ℕ} {valuesAfter valuesOther : List ℕ} → DecodePromise (plan_in f) values r valuesAfter
       → DecodePromise (plan_in g) values s valuesOther → (r ≡ s) × (valuesAfter ≡ valuesOther)
-  files_decode x y = decode_unique x (decode-moved files_plan shapes reads y)
+  files_decode x y = decode_unique x (decode_moved files_plan shapes reads y)
 
   -- .. trace does ..
   pub files_trace : {trace : List ℕ} {r s : Traced} {traceAfter traceOther : List ℕ} → TracePromise (plan_in f) trace r traceAfter
       → TracePromise (plan_in g) trace s traceOther → (r ≡ s) × (traceAfter ≡ traceOther)
-  files_trace x y = trace_unique x (trace-moved files_plan shapes reads y)
+  files_trace x y = trace_unique x (trace_moved files_plan shapes reads y)
 
   -- .. the plain run does ..
   pub files_plain : (m : ℕ) (elements : List ℕ) {registers : List ℕ} {r s : Ran} {registers_after registersOther : List ℕ}
@@ -135,7 +135,7 @@ module _ {f g : List ℕ} {u v : Unpacked} (answered : UnpackPromise f u) (answe
       → (r ≡ s) × (registers_after ≡ registersOther)
   files_plain m elements {registers} x y =
       plain_unique m elements x
-      (run_moved files_plan shapes reads (run-refused-alike files_plan shapes reads m elements registers)
+      (run_moved files_plan shapes reads (run_refused_alike files_plan shapes reads m elements registers)
       (ap (map (combination m elements)) (last_same (plan_in f) (plan_in g) files_plan)) y)
 
   -- .. and the difference run does.
@@ -144,5 +144,5 @@ module _ {f g : List ℕ} {u v : Unpacked} (answered : UnpackPromise f u) (answe
       → (r ≡ s) × (registers_after ≡ registersOther)
   files_difference m elements {registers} x y =
       difference_unique m elements x
-      (run_moved files_plan shapes reads (run-refused-alike files_plan shapes reads m elements registers)
+      (run_moved files_plan shapes reads (run_refused_alike files_plan shapes reads m elements registers)
       (same-difference (plan_in f) (plan_in g) files_plan m elements (plan_in f).l (omega arith) ∙ ap (difference_registers (plan_in g) m elements) files_plan.l) y)

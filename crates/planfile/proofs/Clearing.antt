@@ -59,35 +59,35 @@ module _ (bits : List ℕ) (n f : ℕ) (some : 0 < length bits) (fill : 8 * leng
   byte_at : get_or (cleared_bits bits f) last 0 ≡ byte
   byte_at = get_or-set_same bits last byte 0 (omega arith)
 
-  byte-other : (q : ℕ) → q ≢ last → get_or (cleared_bits bits f) q 0 ≡ get_or bits q 0
-  byte-other q ne = get_or-set_other bits last q byte 0 ne
+  byte_other : (q : ℕ) → q ≢ last → get_or (cleared_bits bits f) q 0 ≡ get_or bits q 0
+  byte_other q ne = get_or-set_other bits last q byte 0 ne
 
   bytes_small : (q : ℕ) → get_or (cleared_bits bits f) q 0 < 256
   bytes_small q = go (ℕ_discrete q last)
     where
       go : Dec (q ≡ last) → get_or (cleared_bits bits f) q 0 < 256
       go (yes e) = rw (e, byte_at) (omega (arith, small last))
-      go (no ne) = rw (byte-other q ne) (small q)
+      go (no ne) = rw (byte_other q ne) (small q)
 
-  bits-stay : (i : ℕ) → i < n → bit_at (cleared_bits bits f) i ≡ bit_at bits i
+  bits_stay : (i : ℕ) → i < n → bit_at (cleared_bits bits f) i ≡ bit_at bits i
   unfolding bit_at
-  bits-stay i h = go (ℕ_discrete (i / 8) last)
+  bits_stay i h = go (ℕ_discrete (i / 8) last)
     where
       go : Dec (i / 8 ≡ last) → bit_at (cleared_bits bits f) i ≡ bit_at bits i
       go (yes e) = rw (e, byte_at) (bit_stays (get_or bits last 0) f (7 - i % 8) (omega arith))
-      go (no ne) = ap (λ b. b / 2 ^ (7 - i % 8) % 2) (byte-other (i / 8) ne)
+      go (no ne) = ap (λ b. b / 2 ^ (7 - i % 8) % 2) (byte_other (i / 8) ne)
 
-  bits-filled : (i : ℕ) → n ≤ i → bit_at (cleared_bits bits f) i ≡ 0
+  bits_filled : (i : ℕ) → n ≤ i → bit_at (cleared_bits bits f) i ≡ 0
   unfolding bit_at
-  bits-filled i h = go (ℕ_discrete (i / 8) last)
+  bits_filled i h = go (ℕ_discrete (i / 8) last)
     where
       go : Dec (i / 8 ≡ last) → bit_at (cleared_bits bits f) i ≡ 0
       go (yes e) = rw (e, byte_at) (bit_cleared (get_or bits last 0) f (7 - i % 8) (omega arith))
       go (no ne) =
           ap (λ b. b / 2 ^ (7 - i % 8) % 2)
-          (byte-other (i / 8) ne ∙ get_or-eq_default bits 0 (omega arith)) ∙ ap (λ b. b % 2) (zero-div (2 ^ (7 - i % 8)))
+          (byte_other (i / 8) ne ∙ get_or-eq_default bits 0 (omega arith)) ∙ ap (λ b. b % 2) (zero-div (2 ^ (7 - i % 8)))
 
   pub cleared_packed : cleared_bits bits f ≡ pack_bits (tabulate n (bit_at bits))
   cleared_packed =
-      sym (pack_bits_of (cleared_bits bits f) n bytes_small (unfold bytes_for in omega (arith, length-set bits last byte)) bits-filled)
-      ∙ ap pack_bits (tabulate-same n (bit_at (cleared_bits bits f)) (bit_at bits) bits-stay)
+      sym (pack_bits_of (cleared_bits bits f) n bytes_small (unfold bytes_for in omega (arith, length-set bits last byte)) bits_filled)
+      ∙ ap pack_bits (tabulate-same n (bit_at (cleared_bits bits f)) (bit_at bits) bits_stay)

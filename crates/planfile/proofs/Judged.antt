@@ -29,21 +29,21 @@ body_few {d} {l} r = omega (arith, bits_bound d l r.d_high r.l_high)
 
 module _ (t : Trailer) (size : ℕ) (file : List ℕ) where
   -- The two tests.
-  far-says : Says (eqb t.distance (body_length t.d t.l) && leb (t.distance + size) (length file))
+  far_says : Says (eqb t.distance (body_length t.d t.l) && leb (t.distance + size) (length file))
       ((t.distance ≡ body_length t.d t.l) × (t.distance + size ≤ length file))
-  far-says = and_says (eqb_says t.distance (body_length t.d t.l)) (leb_says (t.distance + size) (length file))
+  far_says = and_says (eqb_says t.distance (body_length t.d t.l)) (leb_says (t.distance + size) (length file))
 
   pub far_refused : ((t.distance ≡ body_length t.d t.l) × (t.distance + size ≤ length file) → ⊥) → TRAILER ≡ distance_told t size file
   unfolding distance_told
-  far_refused some = sym (unless_no _ TRAILER (sym (says_no far-says some)))
+  far_refused some = sym (unless_no _ TRAILER (sym (says_no far_says some)))
 
   pub far_accepted : t.distance ≡ body_length t.d t.l → t.distance + size ≤ length file → 0 ≡ distance_told t size file
   unfolding distance_told
-  far_accepted far before = sym (unless_yes _ TRAILER (sym (says_yes far-says (far, before))))
+  far_accepted far before = sym (unless_yes _ TRAILER (sym (says_yes far_says (far, before))))
 
   pub far_none : distance_told t size file ≡ 0 → (t.distance ≡ body_length t.d t.l) × (t.distance + size ≤ length file)
   unfolding distance_told
-  far_none z = (unless_says 8 far-says).0 z
+  far_none z = (unless_says 8 far_says).0 z
 
   -- A body that lies before the trailer has as many bytes.
   pub told_long : t.distance + size ≤ length file → length (body_told t size file) ≡ t.distance
@@ -70,25 +70,25 @@ module _ (t : Trailer) {file : List ℕ} (read : FieldsRead file t.d t.row t.l t
   told_body = rw (told_place, read.distance_is)
 
   -- .. its plan ..
-  told-plan : plan_told t trailer_size file ≡ plan_in file
+  told_plan : plan_told t trailer_size file ≡ plan_in file
   unfolding plan_told plan_in
-  told-plan = rw (told_body, read.d_is, read.l_is, read.row_is)
+  told_plan = rw (told_body, read.d_is, read.l_is, read.row_is)
 
   -- .. and number 9 of its distance.
-  told-distance : distance_told t trailer_size file ≡ distance file
+  told_distance : distance_told t trailer_size file ≡ distance file
   unfolding distance_told distance
-  told-distance = rw (read.d_is, read.l_is, read.distance_is)
+  told_distance = rw (read.d_is, read.l_is, read.distance_is)
 
 module _ (file : List ℕ) (t : Trailer) (read : TrailerRead file trailer_size mark t) where
-  is-trailer : t.refusal ≡ trailer file
+  is_trailer : t.refusal ≡ trailer file
   unfolding trailer
-  is-trailer = read.refusal
+  is_trailer = read.refusal
 
   -- A refusal by the trailer's length or mark is the file's.
   pub judged_early : t.refusal ≢ 0 → Judged file t
   unfolding unpack_refusal
   judged_early some = record {
-    refusal = is-trailer ∙ sym (then_first (trailer file) _ (λ z. some (is-trailer ∙ z)));
+    refusal = is_trailer ∙ sym (then_first (trailer file) _ (λ z. some (is_trailer ∙ z)));
     fields = read.fields;
   }
 
@@ -99,6 +99,6 @@ module _ (file : List ℕ) (t : Trailer) (read : TrailerRead file trailer_size m
   judged_late none n e =
       let f = read.fields none in
       record {
-        refusal = e ∙ ap₂ plan_refusal (told-plan t f) (told-distance t f) ∙ sym (then_next (trailer file) _ (sym is-trailer ∙ none));
+        refusal = e ∙ ap₂ plan_refusal (told_plan t f) (told_distance t f) ∙ sym (then_next (trailer file) _ (sym is_trailer ∙ none));
         fields = λ z. f;
       }

@@ -55,10 +55,10 @@ module _ (file start bits : List ℕ) (room : length start + length bits < lengt
       ∙ get_or-append-add start bits (length bits - 1) 0
 
   -- .. and after a store there and a third run, all is written.
-  three-runs : (v : ℕ) (ws : List ℕ) → length start + length bits + length ws ≡ length file
+  three_runs : (v : ℕ) (ws : List ℕ) → length start + length bits + length ws ≡ length file
       → sets (set (sets (sets file 0 start) (length start) bits) (length start + length bits - 1) v) (length start + length bits) ws
       ≡ start ++ set bits (length bits - 1) v ++ ws
-  three-runs v ws e =
+  three_runs v ws e =
       let place : length start + length bits - 1 ≡ length start + (length bits - 1) = omega arith in
       let both = length-append start bits in
       let body = start ++ set bits (length bits - 1) v in
@@ -123,7 +123,7 @@ module _ {d l : ℕ} {start bits : List ℕ} {row : ℕ} {file : List ℕ} (ok :
       ap₂ (λ x k. get_or x (k + length bits - 1) 0) runs (sym d-long) ∙ last_byte file start bits room s.some in
       o
       ∙ ap₂ (λ x k. sets (set x (k + length bits - 1) v) (k + length bits) ws) runs (sym d-long)
-      ∙ three-runs file start bits room s.some v ws whole
+      ∙ three_runs file start bits room s.some v ws whole
       ∙ ap₂ (λ b w. start ++ b ++ w)
       (ap (set bits (length bits - 1)) (g ∙ ap (λ b. b - b % 2 ^ (8 * length bits - l * d)) last) ∙ packed small)
       (t ∙ ap (λ n. d ∷ row ∷ two_bytes l ++ four_bytes (d + n) ++ mark) ok.bits_long)

@@ -53,19 +53,19 @@ module _ {p : Plan} {file : List ℕ} {r : ℕ} {fileAfter : List ℕ} (packed :
     unfolding start_length
     start_of_packed = ap (take p.d) body_of_packed.0 ∙ take_at p.start _ p.d ok.plan.start
 
-    bits-after : drop p.d part ≡ pack_bits (joined p.l (step_bits p))
+    bits_after : drop p.d part ≡ pack_bits (joined p.l (step_bits p))
     unfolding start_length
-    bits-after = ap (drop p.d) body_of_packed.0 ∙ drop_at p.start _ p.d ok.plan.start
+    bits_after = ap (drop p.d) body_of_packed.0 ∙ drop_at p.start _ p.d ok.plan.start
 
     -- .. each of the l * d plan bits after them is the plan's ..
     pub bits_of_packed : (n : ℕ) → n < p.l * p.d → bit_at (drop p.d part) n ≡ bit_at p.bits n
-    bits_of_packed n h = ap (λ b. bit_at b n) bits-after ∙ packed_bit p.bits p.d p.l n h
+    bits_of_packed n h = ap (λ b. bit_at b n) bits_after ∙ packed_bit p.bits p.d p.l n h
 
     -- .. and the bytes after them are the plan's exactly where its filling bits were 0.
     pub bytes_of_packed : ((i : ℕ) → get_or p.bits i 0 < 256)
         → drop p.d part ≡ p.bits ↔ ((n : ℕ) → p.l * p.d ≤ n → bit_at p.bits n ≡ 0)
     bytes_of_packed bytes =
-        subst (λ b. b ≡ p.bits ↔ ((n : ℕ) → p.l * p.d ≤ n → bit_at p.bits n ≡ 0)) (sym bits-after)
+        subst (λ b. b ≡ p.bits ↔ ((n : ℕ) → p.l * p.d ≤ n → bit_at p.bits n ≡ 0)) (sym bits_after)
         (packed_same p.bits p.d p.l bytes ok.plan.bits)
 
 -- ---- packing what a file holds

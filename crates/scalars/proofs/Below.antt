@@ -50,8 +50,8 @@ module _ (d l : ℕ) (ws : List ℕ) (words : (i : ℕ) → get_or ws i 0 < 2 ^ 
   top_small : get_or ws (j * k + (k - 1)) 0 / 2 ^ ((l - 1) % 64) ≤ 1 → get_or (numbers_of d k ws) j 0 < 2 ^ l
   top_small h = omega (arith, twice, decided.0 (omega (arith, top)))
 
-  top-large : 1 < get_or ws (j * k + (k - 1)) 0 / 2 ^ ((l - 1) % 64) → 2 ^ l ≤ get_or (numbers_of d k ws) j 0
-  top-large h = go (dec_lt (get_or (numbers_of d k ws) j 0) (2 ^ l))
+  top_large : 1 < get_or ws (j * k + (k - 1)) 0 / 2 ^ ((l - 1) % 64) → 2 ^ l ≤ get_or (numbers_of d k ws) j 0
+  top_large h = go (dec_lt (get_or (numbers_of d k ws) j 0) (2 ^ l))
     where
       go : Dec (get_or (numbers_of d k ws) j 0 < 2 ^ l) → 2 ^ l ≤ get_or (numbers_of d k ws) j 0
       go (yes small) = absurd (omega (arith, top, decided.1 (omega (arith, twice))))
@@ -68,7 +68,7 @@ module _ (d l : ℕ) (ws : List ℕ) (words : (i : ℕ) → get_or ws i 0 < 2 ^ 
 
   -- A number that is too large decides the test ..
   pub below_fails : 1 < get_or ws (j * k + (k - 1)) 0 / 2 ^ ((l - 1) % 64) → all below (drop j ks) ≡ all below ks → false ≡ all below ks
-  below_fails h = all_fails below ks j inside (le-ltb (get_or ks j 0) (2 ^ l) (top-large h))
+  below_fails h = all_fails below ks j inside (le-ltb (get_or ks j 0) (2 ^ l) (top_large h))
 
   -- .. and one that is not leaves it to those after it.
   pub below_goes : get_or ws (j * k + (k - 1)) 0 / 2 ^ ((l - 1) % 64) ≤ 1 → all below (drop j ks) ≡ all below ks

@@ -63,8 +63,8 @@ module _ {first : List ℕ} {fs : List (List ℕ)} {start : List ℕ} {at : ℕ}
       ∙ simp append_assoc
 
   -- What is left fits.
-  left-fits : Fits start at (line first fs) → next + length (spaced (drop i fs) ++ (10 ∷ [])) ≤ length text
-  left-fits fits = put_room w.done _ (rw parted at fits)
+  left_fits : Fits start at (line first fs) → next + length (spaced (drop i fs) ++ (10 ∷ [])) ≤ length text
+  left_fits fits = put_room w.done _ (rw parted at fits)
 
   module _ (h : i < length fs) where
     -- There is room for field i ..
@@ -73,7 +73,7 @@ module _ {first : List ℕ} {fs : List (List ℕ)} {start : List ℕ} {at : ℕ}
         let here : length (spaced (drop i fs)) ≡ length (32 ∷ get_or fs i []) + length (spaced (drop (suc i) fs)) =
         ap (λ l. length (spaced l)) (drop-cons fs i [] h)
         ∙ unfold spaced flatten in length-append (32 ∷ get_or fs i []) (spaced (drop (suc i) fs)) in
-        omega (arith, left-fits fits, here, length-append (spaced (drop i fs)) (10 ∷ []))
+        omega (arith, left_fits fits, here, length-append (spaced (drop i fs)) (10 ∷ []))
 
     -- .. and with it one field more is put.
     pub fielding_next : {f after : List ℕ} {then : ℕ} → f ≡ get_or fs i [] → Put text next (32 ∷ f) after then
@@ -97,7 +97,7 @@ module _ {first : List ℕ} {fs : List (List ℕ)} {start : List ℕ} {at : ℕ}
 
     -- After the last field there is room for the newline ..
     pub fielding_room_end : Fits start at (line first fs) → Fits text next (10 ∷ [])
-    fielding_room_end fits = rw none at (left-fits fits)
+    fielding_room_end fits = rw none at (left_fits fits)
 
     -- .. and with it the line is put.
     pub fielding_end : {after : List ℕ} {then : ℕ} → Put text next (10 ∷ []) after then → Put start at (line first fs) after then

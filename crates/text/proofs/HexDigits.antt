@@ -9,7 +9,7 @@ use native.Mathlib.Omega.{arith}
 use lib.ListN.{length, get_or, length-map}
 use Rattle.ladder.specs.Numbers.{number_of}
 use Rattle.ladder.specs.Listing.{digits_of, character, hexadecimal}
-use Rattle.ladder.proofs.Lists.{get_d_map}
+use Rattle.ladder.proofs.Lists.{get_or-map}
 use Rattle.ladder.proofs.Numbers.{number_of_below}
 use Rattle.ladder.proofs.Texts.{hex_power}
 use Rattle.ladder.proofs.Numerals.{digits_count, digits_length, digits_nth}
@@ -103,4 +103,4 @@ hex_character n count i e h f =
     let long : count ≡ length (digits_of 16 n) = e ∙ length-hexadecimal n in
     let here : i < length (digits_of 16 n) = omega arith in
     ap character (f ∙ ap (λ k. n / 16 ^ (k - 1 - i) % 16) long ∙ sym (digits_nth 16 (omega arith) n i here))
-    ∙ sym (get_d_map character (digits_of 16 n) i 0 0 here)
+    ∙ sym (get_or-map character (digits_of 16 n) i 0 0 here)

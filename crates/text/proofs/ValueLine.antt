@@ -8,7 +8,7 @@ use lib.ListN.{length, get_or, take, drop, length-drop, length-map}
 use lib.Seq.{length-take-le}
 use Rattle.ladder.specs.Numbers.{number_of, numbers_of}
 use Rattle.ladder.specs.Listing.{line, hexadecimal}
-use Rattle.ladder.proofs.Lists.{get_d_map}
+use Rattle.ladder.proofs.Lists.{get_or-map}
 use Rattle.ladder.proofs.Numbers.{own, own_within, number_at, length-numbers_of}
 use Rattle.text.specs.Inner.{Fits, Put, ValueIn, ValuesIn}
 use Rattle.text.proofs.Putting.{put_none, put_then, put_room}
@@ -26,8 +26,8 @@ module _ {k j : ℕ} {ws : List ℕ} (v : ValueIn k j ws) where
       let count : j * k + k - j * k ≡ k = omega arith in
       ap (λ n. take n (drop (j * k) ws)) count
 
-  length-own : length (own k ws j) ≡ k
-  length-own = length-take-le k (drop (j * k) ws) (omega (arith, v.inside, length-drop (j * k) ws))
+  length_own : length (own k ws j) ≡ k
+  length_own = length-take-le k (drop (j * k) ws) (omega (arith, v.inside, length-drop (j * k) ws))
 
   -- They are as many as a number may have, and after the space there is room for it ..
   pub value_asked : {start : List ℕ} {at : ℕ} {text : List ℕ} {next : ℕ} → Put start at (32 ∷ []) text next
@@ -35,7 +35,7 @@ module _ {k j : ℕ} {ws : List ℕ} (v : ValueIn k j ws) where
       → (1 ≤ length taken) × ((length taken ≤ 10) × Fits text next (hexadecimal (number_of taken)))
   value_asked p fits =
       let room = put_room p (hexadecimal (number_of (own k ws j))) fits in
-      rw taken_own (omega (arith, v.k_low, length-own), (omega (arith, v.k_high, length-own), room))
+      rw taken_own (omega (arith, v.k_low, length_own), (omega (arith, v.k_high, length_own), room))
 
   -- .. which is then put.
   pub value_put : {start : List ℕ} {at : ℕ} {text : List ℕ} {next : ℕ} → Put start at (32 ∷ []) text next
@@ -61,7 +61,7 @@ module _ (d k : ℕ) (ws : List ℕ) where
     module _ (h : j < d) where
       field : get_or (fields d k ws) j [] ≡ hexadecimal (number_of (own k ws j))
       field =
-          get_d_map hexadecimal (numbers_of d k ws) j 0 [] (omega (arith, length-numbers_of d k ws))
+          get_or-map hexadecimal (numbers_of d k ws) j 0 [] (omega (arith, length-numbers_of d k ws))
           ∙ ap hexadecimal (number_at d k ws j h)
 
       -- Value j lies within the words, and there is room for it ..

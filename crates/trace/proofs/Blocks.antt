@@ -46,15 +46,15 @@ module _ {d : ℕ} (small : d ≤ 8) (signs : List ℤ) {order : List ℕ} (a : 
   unfolding trace_bytes flatten
   bytes_next v x x' k h e = ap trace_bytes (rest_next d signs a n v x x' k h e)
 
-  bytes-none : (v : List ℤ) (x k : ℕ) → d ≤ k → bytes_of v x k ≡ []
+  bytes_none : (v : List ℤ) (x k : ℕ) → d ≤ k → bytes_of v x k ≡ []
   unfolding trace_bytes flatten
-  bytes-none v x k h = ap trace_bytes (rest_none d signs a n v x k h)
+  bytes_none v x k h = ap trace_bytes (rest_none d signs a n v x k h)
 
   -- Each of the additions that are left has d + 2 bytes.
-  rest-length : (m : ℕ) (v : List ℤ) (x k : ℕ) → m + k ≡ d → length v ≡ 8 → x ≡ ones (drop k (bits_of d n))
+  rest_length : (m : ℕ) (v : List ℤ) (x k : ℕ) → m + k ≡ d → length v ≡ 8 → x ≡ ones (drop k (bits_of d n))
       → length (bytes_of v x k) ≡ m * (d + 2)
-  rest-length zero v x k e l o = ap length (bytes-none v x k (omega arith)) ∙ sym (zero-mul (d + 2))
-  rest-length (suc m) v x k e l o =
+  rest_length zero v x k e l o = ap length (bytes_none v x k (omega arith)) ∙ sym (zero-mul (d + 2))
+  rest_length (suc m) v x k e l o =
       let h : k < d = omega arith in
       let x' = ones (drop (suc k) (bits_of d n)) in
       let u = more d signs a n v k in
@@ -66,16 +66,16 @@ module _ {d : ℕ} (small : d ≤ 8) (signs : List ℤ) {order : List ℕ} (a : 
         ap length next,
         length-append (entry_bytes entry) (bytes_of u x' (suc k)),
         length-entry_bytes entry d (length-take-le d u (omega arith)),
-        rest-length m u x' (suc k) (omega arith) eight refl,
+        rest_length m u x' (suc k) (omega arith) eight refl,
         suc-mul m (d + 2),
       )
 
   -- The doubling's bytes, and those of all additions behind them.
-  block-bytes : trace_bytes (walk_block d (take d signs) (map pred (take d order)) (bits_of d n))
+  block_bytes : trace_bytes (walk_block d (take d signs) (map pred (take d order)) (bits_of d n))
       ≡ entry_bytes (entry_at d (ones (bits_of d n)) (ones (bits_of d n)) (replicate 8 (pos 0)))
       ++ bytes_of (replicate 8 (pos 0)) (ones (bits_of d n)) 0
   unfolding trace_bytes flatten
-  block-bytes = ap trace_bytes (block_rest d signs a n small)
+  block_bytes = ap trace_bytes (block_rest d signs a n small)
 
   module _ (start : List ℕ) (from : ℕ) where
     abbrev State : List ℕ → List ℤ → ℕ → ℕ → ℕ → Type 0
@@ -88,7 +88,7 @@ module _ {d : ℕ} (small : d ≤ 8) (signs : List ℤ) {order : List ℕ} (a : 
       left = e;
       eight = refl;
       long = refl;
-      room = omega (arith, rest-length d (replicate 8 (pos 0)) x 0 (omega arith) refl e);
+      room = omega (arith, rest_length d (replicate 8 (pos 0)) x 0 (omega arith) refl e);
       done = ap (λ y. sets start from (bytes_of (replicate 8 (pos 0)) y 0)) e;
     }
 
@@ -109,10 +109,10 @@ module _ {d : ℕ} (small : d ≤ 8) (signs : List ℤ) {order : List ℕ} (a : 
           ),
         )
 
-    blocking-more : {out : List ℕ} {v : List ℤ} {x next k : ℕ} → State out v x next k → k < d → (x' : ℕ) → x ≡ get_or (bits_of d n) k 0 + x'
+    blocking_more : {out : List ℕ} {v : List ℤ} {x next k : ℕ} → State out v x next k → k < d → (x' : ℕ) → x ≡ get_or (bits_of d n) k 0 + x'
         → (out' : List ℕ) → out' ≡ sets out next (entry_bytes (entry_at d x' (x' + (k + 1)) (more d signs a n v k)))
         → State out' (more d signs a n v k) x' (next + (d + 2)) (k + 1)
-    blocking-more {out} {v} {x} {next} {k} s h x' e out' w =
+    blocking_more {out} {v} {x} {next} {k} s h x' e out' w =
         let u = more d signs a n v k in
         let entry = entry_at d x' (x' + suc k) u in
         let eight : length u ≡ 8 = length-set v (get_or order k 0 - 1) _ ∙ s.eight in
@@ -141,11 +141,11 @@ module _ {d : ℕ} (small : d ≤ 8) (signs : List ℤ) {order : List ℕ} (a : 
         → (v' : List ℤ) → v' ≡ more d signs a n v k → (out' : List ℕ) → out' ≡ sets out next (entry_bytes (entry_at d x' (x' + (k + 1)) v'))
         → State out' v' x' (next + (d + 2)) (k + 1)
     blocking_next {out} {v} {x} {next} {k} s h x' e v' q out' w =
-        rw q (blocking-more s h x' e out' (w ∙ ap (λ u. sets out next (entry_bytes (entry_at d x' (x' + (k + 1)) u))) q))
+        rw q (blocking_more s h x' e out' (w ∙ ap (λ u. sets out next (entry_bytes (entry_at d x' (x' + (k + 1)) u))) q))
 
     pub blocking_end : {out : List ℕ} {v : List ℤ} {x next k : ℕ} → State out v x next k → d ≤ k
         → out ≡ sets start from (bytes_of (replicate 8 (pos 0)) (ones (bits_of d n)) 0)
-    blocking_end {out} {v} {x} {next} {k} s h = sym (ap (sets out next) (bytes-none v x k h)) ∙ s.done
+    blocking_end {out} {v} {x} {next} {k} s h = sym (ap (sets out next) (bytes_none v x k h)) ∙ s.done
 
   -- The doubling written at `at`, and the additions behind it, are the block.
   pub block_written : (out : List ℕ) (at : ℕ) (start : List ℕ)
@@ -158,7 +158,7 @@ module _ {d : ℕ} (small : d ≤ 8) (signs : List ℤ) {order : List ℕ} (a : 
       let bytes = bytes_of (replicate 8 (pos 0)) h 0 in
       ap₂ (λ o i. sets o i bytes) w (ap (λ i. at + i) (sym (length-entry_bytes entry d (length-take-le d (replicate 8 (pos 0)) small))))
       ∙ sym (sets-append out at (entry_bytes entry) bytes)
-      ∙ sym (ap (sets out at) block-bytes)
+      ∙ sym (ap (sets out at) block_bytes)
 
   -- A block has (d + 1) * (d + 2) bytes.
   pub block-length : length (trace_bytes (walk_block d (take d signs) (map pred (take d order)) (bits_of d n))) ≡ (d + 1) * (d + 2)
@@ -167,9 +167,9 @@ module _ {d : ℕ} (small : d ≤ 8) (signs : List ℤ) {order : List ℕ} (a : 
       let entry = entry_at d h h (replicate 8 (pos 0)) in
       omega (
         arith,
-        ap length block-bytes,
+        ap length block_bytes,
         length-append (entry_bytes entry) (bytes_of (replicate 8 (pos 0)) h 0),
         length-entry_bytes entry d (length-take-le d (replicate 8 (pos 0)) small),
-        rest-length d (replicate 8 (pos 0)) h 0 (omega arith) refl refl,
+        rest_length d (replicate 8 (pos 0)) h 0 (omega arith) refl refl,
         block_size d,
       )

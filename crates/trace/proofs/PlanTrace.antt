@@ -37,13 +37,13 @@ joined_front zero f = sym (append-nil (f 0))
 joined_front (suc n) f = ap (λ l. l ++ f (suc n)) (joined_front n f) ∙ append_assoc (f 0) (joined n (λ i. f (suc i))) (f (suc n))
 
 module _ (p : Plan) (ok : Accepted p) where
-  order-places : (s : ℕ) → length (order_in p s) ≡ p.d
+  order_places : (s : ℕ) → length (order_in p s) ≡ p.d
   unfolding order_in
-  order-places s = length-order_after p.d (start_order p) (step_bits p) ok.start.long (length-step_bits p) s
+  order_places s = length-order_after p.d (start_order p) (step_bits p) ok.start.long (length-step_bits p) s
 
-  signs-places : (s : ℕ) → length (signs_in p s) ≡ p.d
+  signs_places : (s : ℕ) → length (signs_in p s) ≡ p.d
   unfolding signs_in
-  signs-places s = length-signs_after p.d (start_order p) (step_bits p) s
+  signs_places s = length-signs_after p.d (start_order p) (step_bits p) s
 
   block_in : (s : ℕ) → walk_block p.d (signs_in p s) (step_order (order_in p s) (step_bits p s)) (step_bits p s) ≡ block_in p s
   unfolding block_in
@@ -57,16 +57,16 @@ module _ (p : Plan) (ok : Accepted p) where
   unfolding walk_entries joined order_in signs_in order_after signs_after
   walk_entries_lem zero s = refl
   walk_entries_lem (suc n) s =
-      entries_of p.d (order_in p s) (signs_in p s) p.bits s n (step_bits p s) (order-places s) (signs-places s) refl
+      entries_of p.d (order_in p s) (signs_in p s) p.bits s n (step_bits p s) (order_places s) (signs_places s) refl
       ∙ ap₂ (λ b es. b ++ es)
       (block_in s ∙ ap (block_in p) (sym (add-zero s)))
       (walk_entries_lem n (suc s) ∙ joined_same n _ _ (λ i h. ap (block_in p) (omega arith)))
       ∙ sym (joined_front n (λ i. block_in p (s + i)))
 
   -- From the start state they are the plan's trace.
-  walk-trace : walk_entries (walk_of p.d (start_order p) (start_signs p.d)) p.bits 0 p.l ≡ entries_in p
+  walk_trace : walk_entries (walk_of p.d (start_order p) (start_signs p.d)) p.bits 0 p.l ≡ entries_in p
   unfolding entries_in order_in signs_in order_after signs_after
-  walk-trace = walk_entries_lem p.l 0 ∙ joined_same p.l _ (block_in p) (λ i h. ap (block_in p) (zero-add i))
+  walk_trace = walk_entries_lem p.l 0 ∙ joined_same p.l _ (block_in p) (λ i h. ap (block_in p) (zero-add i))
 
   module _ {w : Walk} (starts : w ≡ walk_of p.d (start_order p) (start_signs p.d)) where
     -- With its buffers' lengths right, the whole trace can be written ..
@@ -87,5 +87,5 @@ module _ (p : Plan) (ok : Accepted p) where
     pub traced_in : {out : List ℕ} {m n : ℕ} → TraceLeft (walk_entries w p.bits 0 (p.l - 0)) out m n
         → (out ≡ trace_bytes (entries_in p)) × (m ≡ doublings (entries_in p)) × (n ≡ addition_count (entries_in p))
     traced_in t =
-        let e = ap₂ (λ v l. walk_entries v p.bits 0 l) starts (sub-zero p.l) ∙ walk-trace in
+        let e = ap₂ (λ v l. walk_entries v p.bits 0 l) starts (sub-zero p.l) ∙ walk_trace in
         (t.bytes ∙ ap trace_bytes e, t.doubled ∙ ap doublings e, t.added ∙ ap addition_count e)

@@ -79,28 +79,28 @@ module _ {w₀ : Walk} {bytes : List ℕ} {from to : ℕ} {start : List ℕ} (as
       split : walk_entries w bytes s (to - s) ≡ block_of w n ++ later
       split = ap (walk_entries w bytes s) (omega arith) ∙ entries_next w bytes s (to - suc s) n r
 
-      split-bytes : trace_bytes (walk_entries w bytes s (to - s)) ≡ trace_bytes (block_of w n) ++ trace_bytes later
-      split-bytes = ap trace_bytes split ∙ trace_bytes-append (block_of w n) later
+      split_bytes : trace_bytes (walk_entries w bytes s (to - s)) ≡ trace_bytes (block_of w n) ++ trace_bytes later
+      split_bytes = ap trace_bytes split ∙ trace_bytes-append (block_of w n) later
 
-      split-length : length (trace_bytes (walk_entries w bytes s (to - s)))
+      split_length : length (trace_bytes (walk_entries w bytes s (to - s)))
           ≡ (w.d + 1) * (w.d + 2) + length (trace_bytes later)
-      split-length =
-          ap length split-bytes
+      split_length =
+          ap length split_bytes
           ∙ length-append (trace_bytes (block_of w n)) (trace_bytes later)
           ∙ ap (λ m. m + length (trace_bytes later)) (block_of_length t.ready n)
 
       -- There is room for the step's block, and for its additions in the count.
       pub block_room : at + (w.d + 1) * (w.d + 2) ≤ length out
-      block_room = omega (arith, t.room, t.long, split-length)
+      block_room = omega (arith, t.room, t.long, split_length)
 
-      additions-split : addition_count (walk_entries w bytes s (to - s)) ≡ w.d + addition_count later
-      additions-split =
+      additions_split : addition_count (walk_entries w bytes s (to - s)) ≡ w.d + addition_count later
+      additions_split =
           ap addition_count split
           ∙ addition_count-append (block_of w n) later
           ∙ ap (λ m. m + addition_count later) (block_of_additions t.ready n)
 
       pub additions_room : added + w.d ≤ 4608
-      additions_room = omega (arith, counts_small.1, additions-split)
+      additions_room = omega (arith, counts_small.1, additions_split)
 
       -- One step more: its block written, its operations counted.
       pub tracing_next : (out' : List ℕ) (next : Walk) → next ≡ step_walk w n
@@ -117,11 +117,11 @@ module _ {w₀ : Walk} {bytes : List ℕ} {from to : ℕ} {start : List ℕ} (as
             width = step_d w n ∙ t.width;
             within = h;
             long = ap length wrote ∙ length-sets out at block ∙ t.long;
-            room = omega (arith, t.room, split-length);
+            room = omega (arith, t.room, split_length);
             done =
                 ap₂ (λ o' i. sets o' i rest) wrote (ap (λ i. at + i) (sym (block_of_length t.ready n)))
                 ∙ sym (sets-append out at block rest)
-                ∙ sym (ap (sets out at) split-bytes)
+                ∙ sym (ap (sets out at) split_bytes)
                 ∙ t.done;
             doublings_left =
                 omega (
@@ -131,7 +131,7 @@ module _ {w₀ : Walk} {bytes : List ℕ} {from to : ℕ} {start : List ℕ} (as
                   doublings-append (block_of w n) later,
                   block_of_doublings t.ready n,
                 );
-            additions_left = omega (arith, t.additions_left, additions-split);
+            additions_left = omega (arith, t.additions_left, additions_split);
           }
 
     -- No step left.

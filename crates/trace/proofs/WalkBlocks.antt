@@ -43,14 +43,14 @@ filled-additions d v signs (j ∷ S) [] e = absurd (omega arith)
 filled-additions d v signs (j ∷ S) (p ∷ ps) e = omega (arith, filled-additions d (set v j (get_or signs j (pos 0))) signs S ps (omega arith))
 
 module _ (d : ℕ) (signs : List ℤ) (S r : List ℕ) (e : length S ≡ length r) where
-  one-doubling : doublings (walk_block d signs S r) ≡ 1
+  one_doubling : doublings (walk_block d signs S r) ≡ 1
   unfolding walk_block doublings block operations entry_of
-  one-doubling =
+  one_doubling =
       omega (arith, filled-doublings d (replicate d (pos 0)) signs S (additions r) (e ∙ sym (length-additions r)), block-doublings d [] r)
 
-  many-additions : addition_count (walk_block d signs S r) ≡ length r
+  many_additions : addition_count (walk_block d signs S r) ≡ length r
   unfolding walk_block addition_count block operations entry_of
-  many-additions =
+  many_additions =
       omega (arith, filled-additions d (replicate d (pos 0)) signs S (additions r) (e ∙ sym (length-additions r)), block-additions d [] r)
 
 -- ---- the block of a walk's step
@@ -77,11 +77,11 @@ module _ {w : Walk} (ready : Ready w) (n : ℕ) where
       ap (λ es. length (trace_bytes es)) (sym block_of_arrays) ∙ block-length ready.high w.signs (ready_step ready n).order n
 
   pub block_of_doublings : doublings (block_of w n) ≡ 1
-  block_of_doublings = one-doubling w.d (walk_signs w) _ (bits_of w.d n) (places ∙ sym (length-bits_of w.d n))
+  block_of_doublings = one_doubling w.d (walk_signs w) _ (bits_of w.d n) (places ∙ sym (length-bits_of w.d n))
 
   pub block_of_additions : addition_count (block_of w n) ≡ w.d
   block_of_additions =
-      many-additions w.d (walk_signs w) _ (bits_of w.d n) (places ∙ sym (length-bits_of w.d n)) ∙ length-bits_of w.d n
+      many_additions w.d (walk_signs w) _ (bits_of w.d n) (places ∙ sym (length-bits_of w.d n)) ∙ length-bits_of w.d n
 
 -- ---- many steps
 

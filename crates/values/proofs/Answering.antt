@@ -9,7 +9,7 @@ use Rattle.ladder.specs.Matrix.{Arrangement, order_after, signs_after}
 use Rattle.ladder.specs.Numbers.{numbers_of, words_of_all, value_words, bits_at}
 use Rattle.ladder.specs.Walk.{Walk, order_of}
 use Rattle.ladder.specs.Inner.Decoding.{walked, walked_entry}
-use Rattle.ladder.proofs.Lists.{get_d_map, length-tabulate, get_d_tabulate, tabulate-same, count-append}
+use Rattle.ladder.proofs.Lists.{get_or-map, length-tabulate, get_or-tabulate, tabulate-same, count-append}
 use Rattle.ladder.proofs.Numbers.{numbers_of-words_of_all, value_fits, length-words_of_all}
 use Rattle.ladder.proofs.Tests.{count-suc}
 use Rattle.bits.specs.Ready.{Ready, Columns}
@@ -33,7 +33,7 @@ places_inside d order h c i b =
     let T = map pred (take d order) in
     let e : get_or order i 0 ≡ suc (get_or T i 0) =
     sym (get_or-take d order i 0 b) ∙ ap (λ l. get_or l i 0) c.counted
-    ∙ get_d_map suc T i 0 0 (omega (arith, c.columns.long)) in
+    ∙ get_or-map suc T i 0 0 (omega (arith, c.columns.long)) in
     (omega arith, omega (arith, c.columns.inside i b))
 
 -- A column is counted as often among the first places from 1 as from 0.
@@ -61,8 +61,8 @@ module _ {w : Walk} {l : ℕ} {bytes order values : List ℕ} (p : Lowered w l b
   abbrev N : ℕ → ℕ
   N = walked w.d (order_of w) (bits_at w.d bytes) l
 
-  above-is : (j : ℕ) → j < w.d → get_or above j 0 ≡ count j (take row (order_after (order_of w) (bits_at w.d bytes) l))
-  above-is j h =
+  above_is : (j : ℕ) → j < w.d → get_or above j 0 ≡ count j (take row (order_after (order_of w) (bits_at w.d bytes) l))
+  above_is j h =
       counts j (omega (arith, ready.high)) ∙ counted_above w.d order p.columns row j inside
       ∙ ap (λ S. count j (take row S)) p.last
 
@@ -71,7 +71,7 @@ module _ {w : Walk} {l : ℕ} {bytes order values : List ℕ} (p : Lowered w l b
     where
       go : Dec (j < w.d) → get_or (tabulate w.d N) j 0 ≤ 2 ^ l
       go (yes h) =
-          omega (arith, get_d_tabulate w.d N j 0 h, walked_below w.d (order_of w) (bits_at w.d bytes) l j)
+          omega (arith, get_or-tabulate w.d N j 0 h, walked_below w.d (order_of w) (bits_at w.d bytes) l j)
       go (no h) = omega (arith, get_or-eq_default (tabulate w.d N) 0 {n = j} (omega (arith, length-tabulate w.d N)))
 
   numbers : numbers_of w.d (value_words l) values ≡ tabulate w.d N
@@ -81,11 +81,11 @@ module _ {w : Walk} {l : ℕ} {bytes order values : List ℕ} (p : Lowered w l b
       ∙ numbers_of-words_of_all (value_words l) (tabulate w.d N) (λ j. value_fits l (get_or (tabulate w.d N) j 0) (number_at j))
 
   number_is : (j : ℕ) → j < w.d → get_or (numbers_of w.d (value_words l) values) j 0 ≡ N j
-  number_is j h = ap (λ ns. get_or ns j 0) numbers ∙ get_d_tabulate w.d N j 0 h
+  number_is j h = ap (λ ns. get_or ns j 0) numbers ∙ get_or-tabulate w.d N j 0 h
 
-  raisable-words : l ≤ 576 → Raisable w.d (value_words l) above values
+  raisable_words : l ≤ 576 → Raisable w.d (value_words l) above values
   unfolding value_words
-  raisable-words high = record {
+  raisable_words high = record {
     d_high = ready.high;
     k_low = omega arith;
     k_high = omega arith;
@@ -98,21 +98,21 @@ module _ {w : Walk} {l : ℕ} {bytes order values : List ℕ} (p : Lowered w l b
         (value_fits l (N j + 1) (omega (arith, walked_below w.d (order_of w) (bits_at w.d bytes) l j)));
   }
 
-  raised-words : raised w.d (value_words l) above values ≡ walked_row w l bytes row
+  raised_words : raised w.d (value_words l) above values ≡ walked_row w l bytes row
   unfolding raised walked_row walked_entry
-  raised-words =
+  raised_words =
       tabulate-same w.d
       (λ j. get_or (numbers_of w.d (value_words l) values) j 0 + (get_or (numbers_of w.d (value_words l) values) j 0 % 2 + get_or above j 0) % 2)
       (λ j. N j + (N j + count j (take row (order_after (order_of w) (bits_at w.d bytes) l))) % 2)
       (λ j h.
       ap₂ (λ a b. a + b) (number_is j h)
-      (ap₂ (λ a b. (a % 2 + b) % 2) (number_is j h) (above-is j h)
+      (ap₂ (λ a b. (a % 2 + b) % 2) (number_is j h) (above_is j h)
       ∙ mod-add-mod (N j) 2 (count j (take row (order_after (order_of w) (bits_at w.d bytes) l)))))
 
   -- The lower numbers, k words each, can be raised, and are the row then.
   module _ (k : ℕ) (words : k ≡ value_words l) where
     pub raisable : l ≤ 576 → Raisable w.d k above values
-    raisable high = subst (λ n. Raisable w.d n above values) (sym words) (raisable-words high)
+    raisable high = subst (λ n. Raisable w.d n above values) (sym words) (raisable_words high)
 
     pub raised-row : words_of_all k (raised w.d k above values) ≡ words_of_all (value_words l) (walked_row w l bytes row)
-    raised-row = rw words (ap (words_of_all (value_words l)) raised-words)
+    raised-row = rw words (ap (words_of_all (value_words l)) raised_words)

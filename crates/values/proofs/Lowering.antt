@@ -96,29 +96,29 @@ module _ {start : Walk} {l : ℕ} {bytes order held values : List ℕ} {left : �
   unfolding order_after
   new_order = rw (p.places, read.bits)
 
-  places-next : map pred (take d next) ≡ order_after S f (suc (l - left))
-  places-next =
+  places_next : map pred (take d next) ≡ order_after S f (suc (l - left))
+  places_next =
       ap (λ o. map pred (take d o)) e
       ∙ columns_after p.columns (bits_of d r) (length-bits_of d r) (replicate (8 - d) 0)
       ∙ new_order
 
   -- .. and each column's digits.
-  low-next : (j : ℕ) → j < d → get_or more j 0 ≡ walked d S f (suc (l - left)) j % 2 ^ 64
-  low-next =
-      pushed_signs d S f (l - left) (length-bits_at d bytes) (bits_below d bytes) (subst (Arrangement d) places-next columns_next.columns) held more
+  low_next : (j : ℕ) → j < d → get_or more j 0 ≡ walked d S f (suc (l - left)) j % 2 ^ 64
+  low_next =
+      pushed_signs d S f (l - left) (length-bits_at d bytes) (bits_below d bytes) (subst (Arrangement d) places_next columns_next.columns) held more
       p.words.low
       (subst (λ T. Pushed d T (f (l - left)) held more) new_order
       (subst (λ b. Pushed d (step_order (map pred (take d order)) (bits_of d r)) b held more) read.bits pushed))
 
-  words-next : Partly d (value_words l) (left - 1) (walked d S f (l - (left - 1))) more (stored_then d (value_words l) (left - 1) more values)
+  words_next : Partly d (value_words l) (left - 1) (walked d S f (l - (left - 1))) more (stored_then d (value_words l) (left - 1) more values)
   unfolding walked value_words
-  words-next =
+  words_next =
       let t : ℕ → ℕ = λ j. digit (get_or (signs_after d S f (suc (l - left))) j (pos 0)) in
       let one : left ≡ left - 1 + 1 = omega arith in
       subst (λ m. Partly d (l / 64 + 1) (left - 1) (walked d S f m) more (stored_then d (l / 64 + 1) (left - 1) more values)) on
       (partly_next (left - 1) (subst (λ i. Partly d (l / 64 + 1) i (walked d S f (l - left)) held values) one p.words)
       (walked d S f (suc (l - left))) t (λ j b. refl) (λ j b. omega (arith, digit_small (get_or (signs_after d S f (suc (l - left))) j (pos 0))))
-      more low-next (omega (arith, p.inside)))
+      more low_next (omega (arith, p.inside)))
 
   -- After one step more.
   pub lowering_next : Lowering start l bytes next more (stored_then d (value_words l) (left - 1) more values) (left - 1)
@@ -128,13 +128,13 @@ module _ {start : Walk} {l : ℕ} {bytes order held values : List ℕ} {left : �
       l_low = p.begun.l_low;
       l_high = p.begun.l_high;
       bits = p.begun.bits;
-      words = words-next.long;
+      words = words_next.long;
     };
     inside = omega (arith, p.inside);
     many = pushed.long;
     columns = columns_next;
-    places = places-next ∙ ap (order_after S f) on;
-    words = words-next;
+    places = places_next ∙ ap (order_after S f) on;
+    words = words_next;
   }
 
 -- After the last step.

@@ -7,7 +7,7 @@ use lib.ListN.{get_or-append}
 use lib.Arith.{digits_div}
 use Rattle.ladder.specs.Lists.{tabulate}
 use Rattle.ladder.specs.Numbers.{words_of, words_of_all}
-use Rattle.ladder.proofs.Lists.{length-tabulate, get_d_tabulate}
+use Rattle.ladder.proofs.Lists.{length-tabulate, get_or-tabulate}
 use Rattle.ladder.proofs.Numbers.{length-words_of, length-words_of_all}
 use Rattle.values.specs.Inner.{stored, stored_then}
 use Rattle.values.proofs.Words.{length-stored, word_inside}
@@ -66,7 +66,7 @@ words_of_all_lem d k f values p long e =
     ∙ sym
     (ap (λ m. get_or (words_of_all k (tabulate d f)) m 0) (sym at)
     ∙ get_or-words_of_all k (tabulate d f) j v (omega (arith, length-tabulate d f)) c
-    ∙ ap (λ m. m / 2 ^ (64 * v) % 2 ^ 64) (get_d_tabulate d f j 0 b)))
+    ∙ ap (λ m. m / 2 ^ (64 * v) % 2 ^ 64) (get_or-tabulate d f j 0 b)))
 
 -- ---- a word stored for each value
 
@@ -115,8 +115,8 @@ grown_high n t e h =
 module _ {d k : ℕ} (i : ℕ) {N : ℕ → ℕ} {held values : List ℕ} (p : Partly d k (i + 1) N held values)
     (M t : ℕ → ℕ) (grown : (j : ℕ) → j < d → M j ≡ 2 * N j + t j) (small : (j : ℕ) → j < d → t j < 2)
     (more : List ℕ) (low : (j : ℕ) → j < d → get_or more j 0 ≡ M j % 2 ^ 64) where
-  high-next : (j v : ℕ) → j < d → v < k → i + 1 ≤ 64 * v → get_or values (j * k + v) 0 ≡ M j / 2 ^ (64 * v - i) % 2 ^ 64
-  high-next j v h l b =
+  high_next : (j v : ℕ) → j < d → v < k → i + 1 ≤ 64 * v → get_or values (j * k + v) 0 ≡ M j / 2 ^ (64 * v - i) % 2 ^ 64
+  high_next j v h l b =
       let e : 64 * v - (i + 1) + 1 ≡ 64 * v - i = omega arith in
       p.high j v h l b
       ∙ ap (λ n. n % 2 ^ 64)
@@ -124,19 +124,19 @@ module _ {d k : ℕ} (i : ℕ) {N : ℕ → ℕ} {held values : List ℕ} (p : P
       ∙ ap₂ (λ n m. n / 2 ^ m) (sym (grown j h)) e)
 
   -- The word is not full: nothing is stored.
-  partly-kept : i % 64 ≢ 0 → Partly d k i M more values
-  partly-kept n = record {
+  partly_kept : i % 64 ≢ 0 → Partly d k i M more values
+  partly_kept n = record {
     long = p.long;
     low = low;
-    high = λ j v h l b. high-next j v h l (beyond v b);
+    high = λ j v h l b. high_next j v h l (beyond v b);
   }
     where
       beyond : (v : ℕ) → i ≤ 64 * v → i + 1 ≤ 64 * v
       beyond v b = omega arith
 
   -- The word is full: it is stored.
-  partly-stored : i % 64 ≡ 0 → i / 64 < k → Partly d k i M more (stored d k (i / 64) more values)
-  partly-stored z w = record {
+  partly_stored : i % 64 ≡ 0 → i / 64 < k → Partly d k i M more (stored d k (i / 64) more values)
+  partly_stored z w = record {
     long = length-stored d k (i / 64) more values ∙ p.long;
     low = low;
     high = λ j v h l b. at j v h l b (ℕ_discrete v (i / 64));
@@ -151,7 +151,7 @@ module _ {d k : ℕ} (i : ℕ) {N : ℕ → ℕ} {held values : List ℕ} (p : P
           ∙ low j h
           ∙ sym (ap (λ m. M j / 2 ^ m % 2 ^ 64) x ∙ ap (λ n. n % 2 ^ 64) (div-one (M j)))
       at j v h l b (no e) =
-          stored_other d k (i / 64) more values j v w l e ∙ high-next j v h l (omega arith)
+          stored_other d k (i / 64) more values j v w l e ∙ high_next j v h l (omega arith)
 
 -- No digit is to come: the words are those of the numbers.
 pub partly_ends : (d k : ℕ) (N : ℕ → ℕ) (held values : List ℕ) → 0 < k → Partly d k 0 N held values
@@ -180,5 +180,5 @@ pub partly_next : {d k : ℕ} (i : ℕ) {N : ℕ → ℕ} {held values : List �
 partly_next {d} {k} i {N} {held} {values} p M t grown small more low w = go (ℕ_discrete (i % 64) 0)
   where
     go : Dec (i % 64 ≡ 0) → Partly d k i M more (stored_then d k i more values)
-    go (yes z) = subst (Partly d k i M more) (full_stored d k i more values z) (partly-stored i p M t grown small more low z w)
-    go (no z) = subst (Partly d k i M more) (part_stored d k i more values z) (partly-kept i p M t grown small more low z)
+    go (yes z) = subst (Partly d k i M more) (full_stored d k i more values z) (partly_stored i p M t grown small more low z w)
+    go (no z) = subst (Partly d k i M more) (part_stored d k i more values z) (partly_kept i p M t grown small more low z)

@@ -7,7 +7,7 @@ use lib.ListN.{get_or-replicate, get_or-append}
 use Rattle.ladder.specs.Matrix.{Arrangement, IsUnit, Units, order_from, step_order, start_signs, step_signs, order_after, signs_after}
 use Rattle.ladder.specs.Walk.{bits_of}
 use Rattle.ladder.specs.Inner.Decoding.{digit, walked}
-use Rattle.ladder.proofs.Lists.{get_d_map}
+use Rattle.ladder.proofs.Lists.{get_or-map}
 use Rattle.ladder.proofs.Order.{place_of, place_once, arrangement_step}
 use Rattle.ladder.proofs.Signs.{turned, turn_at}
 use Rattle.ladder.proofs.Step.{length-step_order}
@@ -63,9 +63,9 @@ module _ {d : ℕ} {old : List ℕ} (small : d ≤ 8) (a : Columns d old) (n : �
   arrangement = arrangement_step a.columns (bits_of d n) (length-bits_of d n)
 
   -- What is filled in at place k is the column there, counted from 1.
-  filled-column : (new : List ℕ) (x k c : ℕ) → Filling d old n (set new k c) x (k + 1) → length new ≡ 8 → k < d
+  filled_column : (new : List ℕ) (x k c : ℕ) → Filling d old n (set new k c) x (k + 1) → length new ≡ 8 → k < d
       → c ≡ suc (get_or (new_order d old n) k 0)
-  filled-column new x k c f eight h =
+  filled_column new x k c f eight h =
       let long = length-step_order (take d old) (bits_of d n) in
       let own = length-step_order (map pred (take d old)) (bits_of d n) in
       let bits = length-bits_of d n in
@@ -73,7 +73,7 @@ module _ {d : ℕ} {old : List ℕ} (small : d ≤ 8) (a : Columns d old) (n : �
       ∙ ap (λ l. get_or l k 0) f.done
       ∙ get_or-append (step_order (take d old) (bits_of d n)) (replicate (8 - d) 0) 0 k (omega (arith, long, bits))
       ∙ ap (λ l. get_or l k 0) (places_step a (bits_of d n) bits)
-      ∙ get_d_map suc (new_order d old n) k 0 0 (omega (arith, own, bits))
+      ∙ get_or-map suc (new_order d old n) k 0 0 (omega (arith, own, bits))
 
   pub pushing_start : (held : List ℕ) → length held ≡ d → (x : ℕ) → Filling d old n (replicate 8 0) x 0
       → Pushing d old n held (replicate 8 0) x held 0
@@ -93,7 +93,7 @@ module _ {d : ℕ} {old : List ℕ} (small : d ≤ 8) (a : Columns d old) (n : �
     -- The place holds a column from 1 to d ..
     pub place_inside : (1 ≤ c) × (c - 1 < d) × (c ≤ 8)
     place_inside =
-        let at = filled-column new (x - b) k c (filling_next d old n small p.filling h b e) p.eight h in
+        let at = filled_column new (x - b) k c (filling_next d old n small p.filling h b e) p.eight h in
         let inside = arrangement.inside k h in
         (omega arith, omega arith, omega arith)
 
@@ -113,7 +113,7 @@ module _ {d : ℕ} {old : List ℕ} (small : d ≤ 8) (a : Columns d old) (n : �
         S = new_order d old n
 
         column : c - 1 ≡ get_or S k 0
-        column = omega (arith, filled-column new (x - b) k c (filling_next d old n small p.filling h b e) p.eight h)
+        column = omega (arith, filled_column new (x - b) k c (filling_next d old n small p.filling h b e) p.eight h)
 
         apart : (m : ℕ) → m < d → (m ≡ k → ⊥) → get_or S m 0 ≡ get_or S k 0 → ⊥
         apart m i ne o = ne (place_once arrangement m k i h o)

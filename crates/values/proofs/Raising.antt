@@ -7,7 +7,7 @@ use native.Mathlib.Decide.{ℕ_discrete, dec_le}
 use lib.Seq.{take-append-add, drop-append-add}
 use Rattle.ladder.specs.Lists.{tabulate}
 use Rattle.ladder.specs.Numbers.{number_of, numbers_of, words_of, words_of_all}
-use Rattle.ladder.proofs.Lists.{length-tabulate, get_d_tabulate, tabulate-same, tabulate-get_or}
+use Rattle.ladder.proofs.Lists.{length-tabulate, get_or-tabulate, tabulate-same, tabulate-get_or}
 use Rattle.ladder.proofs.Numbers.{length-words_of, number_of-words_of, length-words_of_all, length-numbers_of, words_of_all-numbers_of}
 use Rattle.values.specs.Inner.{OneRaisable, raised_one, Raisable, raised}
 
@@ -82,12 +82,12 @@ raised-set d n x j h =
         ∙ get_or-set_same (raised_to d n x j) j (n j + x j) 0 (omega (arith, length-tabulate d (λ i. n i + up_to j x i)))
         ∙ sym
         (ap (λ m. get_or (raised_to d n x (j + 1)) m 0) e
-        ∙ get_d_tabulate d (λ i. n i + up_to (j + 1) x i) j 0 h
+        ∙ get_or-tabulate d (λ i. n i + up_to (j + 1) x i) j 0 h
         ∙ ap (λ m. n j + m) (done (j + 1) x j (omega arith)))
     at i b (no e) =
         get_or-set_other (raised_to d n x j) j i (n j + x j) 0 e
-        ∙ get_d_tabulate d (λ i. n i + up_to j x i) i 0 b
-        ∙ sym (get_d_tabulate d (λ i. n i + up_to (j + 1) x i) i 0 b ∙ ap (λ m. n i + m) (same_up_to x i j e))
+        ∙ get_or-tabulate d (λ i. n i + up_to j x i) i 0 b
+        ∙ sym (get_or-tabulate d (λ i. n i + up_to (j + 1) x i) i 0 b ∙ ap (λ m. n i + m) (same_up_to x i j e))
 
 -- Nothing to add: the value stays.
 raised_skip : (d : ℕ) (n x : ℕ → ℕ) (j : ℕ) → x j ≡ 0 → raised_to d n x j ≡ raised_to d n x (j + 1)
@@ -160,42 +160,42 @@ pub record Raising (d k : ℕ) (above start values : List ℕ) (j : ℕ) : Type 
   pub words : values ≡ words_of_all k (raised_to d (λ i. get_or (numbers_of d k start) i 0) (added_to (numbers_of d k start) above) j)
 
 module _ {d k : ℕ} {above start values : List ℕ} {j : ℕ} (p : Raising d k above start values j) where
-  long-now : length values ≡ d * k
-  long-now =
+  long_now : length values ≡ d * k
+  long_now =
       ap length p.words ∙ length-words_of_all k (raised_to d (λ i. get_or (numbers_of d k start) i 0) (added_to (numbers_of d k start) above) j)
       ∙ ap (λ n. n * k) (length-tabulate d (λ i. get_or (numbers_of d k start) i 0 + up_to j (added_to (numbers_of d k start) above) i))
 
   pub raising_long : length values ≡ length start
-  raising_long = long-now ∙ sym p.begun.long
+  raising_long = long_now ∙ sym p.begun.long
 
   -- Value j is as it came.
-  part-now : j < d → take k (drop (j * k) values) ≡ words_of k (get_or (numbers_of d k start) j 0)
-  part-now h =
+  part_now : j < d → take k (drop (j * k) values) ≡ words_of k (get_or (numbers_of d k start) j 0)
+  part_now h =
       let R = raised_to d (λ i. get_or (numbers_of d k start) i 0) (added_to (numbers_of d k start) above) j in
       ap (λ l. take k (drop (j * k) l)) p.words
       ∙ part_of k R j (omega (arith, length-tabulate d (λ i. get_or (numbers_of d k start) i 0 + up_to j (added_to (numbers_of d k start) above) i)))
       ∙ ap (words_of k)
-      (get_d_tabulate d (λ i. get_or (numbers_of d k start) i 0 + up_to j (added_to (numbers_of d k start) above) i) j 0 h
+      (get_or-tabulate d (λ i. get_or (numbers_of d k start) i 0 + up_to j (added_to (numbers_of d k start) above) i) j 0 h
       ∙ ap (λ m. get_or (numbers_of d k start) j 0 + m) (to_do j (added_to (numbers_of d k start) above) j (omega arith))
       ∙ add-zero (get_or (numbers_of d k start) j 0))
 
-  number-now : j < d → number_of (take k (drop (j * k) values)) ≡ get_or (numbers_of d k start) j 0
-  number-now h =
-      ap number_of (part-now h)
+  number_now : j < d → number_of (take k (drop (j * k) values)) ≡ get_or (numbers_of d k start) j 0
+  number_now h =
+      ap number_of (part_now h)
       ∙ number_of-words_of k (get_or (numbers_of d k start) j 0) (omega (arith, p.begun.room j h))
 
   -- Its last digit stands in its first word.
   pub raising_digit : j < d → get_or values (j * k) 0 % 2 ≡ get_or (numbers_of d k start) j 0 % 2
   raising_digit h =
       ap (λ m. m % 2) (sym (get_or-drop (j * k) values 0 0 ∙ ap (λ i. get_or values i 0) (add-zero (j * k))))
-      ∙ first_word k (drop (j * k) values) p.begun.k_low ∙ ap (λ m. m % 2) (number-now h)
+      ∙ first_word k (drop (j * k) values) p.begun.k_low ∙ ap (λ m. m % 2) (number_now h)
 
   pub raising_room : j < d → OneRaisable k j values
   raising_room h = record {
     j_high = omega (arith, p.begun.d_high);
     k_high = p.begun.k_high;
-    inside = omega (arith, long-now, mul-le-mul_right k h, suc-mul j k);
-    room = subst (λ n. n + 1 < 2 ^ (64 * k)) (sym (number-now h)) (p.begun.room j h);
+    inside = omega (arith, long_now, mul-le-mul_right k h, suc-mul j k);
+    room = subst (λ n. n + 1 < 2 ^ (64 * k)) (sym (number_now h)) (p.begun.room j h);
   }
 
   -- Its first word lies in the buffer.
@@ -227,7 +227,7 @@ module _ {d k : ℕ} {above start values : List ℕ} {j : ℕ} (p : Raising d k 
           let one : added_to (numbers_of d k start) above j ≡ 1 = omega (arith, p.begun.few j h) in
           let R = raised_to d n (added_to (numbers_of d k start) above) j in
           raised_by k j (get_or (numbers_of d k start) j 0 % 2) (get_or above j 0) values q
-          ∙ ap₂ (λ l m. take (j * k) l ++ (words_of k (m + 1) ++ drop (j * k + k) l)) p.words (number-now h)
+          ∙ ap₂ (λ l m. take (j * k) l ++ (words_of k (m + 1) ++ drop (j * k + k) l)) p.words (number_now h)
           ∙ part_set k R j (n j + 1) (omega (arith, length-tabulate d (λ i. n i + up_to j (added_to (numbers_of d k start) above) i)))
           ∙ ap (words_of_all k) (ap (λ m. set R j (n j + m)) (sym one) ∙ raised-set d n (added_to (numbers_of d k start) above) j h)
 

@@ -45,9 +45,9 @@ module _ {w : Walk} {bits : ℕ} {r : Stepped} (promise : StepPromise w bits r) 
 
 module _ (p : Plan) (ok : Accepted p) where
   -- The walk state before step s (the rules' step s+1) is in order ..
-  walk-ok-in : (s : ℕ) → walk_order (walk_of p.d (order_in p s) (signs_in p s)) ≡ 0
+  walk_ok_in : (s : ℕ) → walk_order (walk_of p.d (order_in p s) (signs_in p s)) ≡ 0
   unfolding walk_of signs_in
-  walk-ok-in s =
+  walk_ok_in s =
       let many = length-signs_after p.d (start_order p) (step_bits p) s in
       walk_in_order (signs_in p s) ok.d_high (state_in p ok s).order many
       (λ j h. let b : j < length (signs_in p s) = omega arith in
@@ -73,7 +73,7 @@ module _ (p : Plan) (ok : Accepted p) where
   steps_along s w r e promise =
       let asked : StepOk (walk_of p.d (order_in p s) (signs_in p s)) (number_of_bits (step_bits p s)) = record {
         dimension = (ok.d_low, ok.d_high);
-        walk = (walk_order_none _).0 (walk-ok-in s);
+        walk = (walk_order_none _).0 (walk_ok_in s);
         number = bits_in s;
       } in
       let done = step_accepted promise (subst (λ v. StepOk v (number_of_bits (step_bits p s))) (sym e) asked) in

@@ -7,7 +7,7 @@ use native.Mathlib.Omega.{arith}
 use borrow.Author.Rules.{rules}
 use lib.ListN.{length, length-map}
 use Rattle.ladder.specs.Listing.{line, start_word, decimal}
-use Rattle.ladder.proofs.Lists.{get_d_map}
+use Rattle.ladder.proofs.Lists.{get_or-map}
 use Rattle.text.specs.Inner.{Fits}
 use Rattle.text.proofs.Putting.{put_none, put_length}
 use Rattle.text.proofs.Fields.{line_word, line_room, line_then, Fielding, fielding_start, fielding_room, fielding_next, fielding_room_end, fielding_end}
@@ -63,7 +63,7 @@ put-number-requires c κs =
     let i = l.loop.i in
     let h : i < length start = omega arith in
     let room = fielding_room l.loop.inv (omega (arith, length-map start decimal)) (rest-fits (word l)) in
-    (omega (arith, s.pre.0 i h), rw (get_d_map decimal start i 0 [] h) at room)
+    (omega (arith, s.pre.0 i h), rw (get_or-map decimal start i 0 [] h) at room)
 
 add-i : tie.Need-overflow-add-i invariant-loop decreases-loop
 add-i c = search rules
@@ -78,7 +78,7 @@ loop-again c =
     let start = (entry (word l)).args.start.now in
     let i = l.loop.i in
     let h : i < length start = omega arith in
-    fielding_next l.loop.inv (omega (arith, length-map start decimal)) (sym (get_d_map decimal start i 0 [] h)) p.put-number.ensures
+    fielding_next l.loop.inv (omega (arith, length-map start decimal)) (sym (get_or-map decimal start i 0 [] h)) p.put-number.ensures
 
 slice-aggregate-put-bytes-2 : tie.Need-slice-aggregate-put-bytes-2 invariant-loop decreases-loop
 slice-aggregate-put-bytes-2 c = search rules

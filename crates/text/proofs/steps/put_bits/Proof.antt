@@ -9,7 +9,7 @@ use lib.ListN.{length, length-map}
 use Rattle.ladder.specs.Listing.{character}
 use Rattle.ladder.specs.Numbers.{bits_at}
 use Rattle.ladder.specs.Walk.{bits_of}
-use Rattle.ladder.proofs.Lists.{get_d_map}
+use Rattle.ladder.proofs.Lists.{get_or-map}
 use Rattle.ladder.proofs.Walk.{length-bits_of}
 use Rattle.bits.proofs.StepBits.{bit_below}
 use Rattle.text.specs.Inner.{Fits}
@@ -77,7 +77,7 @@ loop-again c =
     let r = (read l).step-bits.result in
     spelling_next l.loop.invariant (omega (arith, shown-long d r)) _
     (c.character.ensures ∙ ap character c.before.bit.ensures
-    ∙ sym (get_d_map character (bits_of d r) l.loop.k 0 0 (omega (arith, length-bits_of d r))))
+    ∙ sym (get_or-map character (bits_of d r) l.loop.k 0 0 (omega (arith, length-bits_of d r))))
 
 add-result : tie.Need-overflow-add-result invariant-loop decreases-loop
 add-result c =
