@@ -1,6 +1,8 @@
 // Answers a stream of requests, one line each, so that any outside model can be held against the library. The first number of standard
 // input says how many requests follow. The stored requests stand in ../stdin; what they must give, ../stdout, is the model's
 // (../../../model), never what this program wrote.
+#![tactic(auto)]
+
 mod calls;
 mod files;
 mod limit;

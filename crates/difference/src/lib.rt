@@ -1,5 +1,7 @@
 // The difference run of a plan over words by a modulus: each addition has one register and a vector. The public call is
 // `difference_run`; the rest is an inside of it.
+#![tactic(auto)]
+
 mod accepted;
 mod addition;
 mod call;

@@ -1,4 +1,6 @@
 // The encoder: from scalars to a start order and bits. The public call is `encode`; the rest is an inside of it.
+#![tactic(auto)]
+
 mod call;
 mod dealing;
 mod order;

@@ -1,5 +1,7 @@
 // Bytes and words in lent slices: read where there may be none, copied, and widened. It knows no plans. An inside, for the crates of this
 // repository: what copies asks that there is room.
+#![tactic(auto)]
+
 mod bytes;
 mod words;
 

@@ -1,5 +1,7 @@
 // The listing program: what stands on standard input, a plan file, as lines on standard output. One byte more than is listed is read, so
 // that the library can tell.
+#![tactic(auto)]
+
 mod written;
 
 use libc::{STDIN_FILENO, STDOUT_FILENO};

@@ -1,5 +1,7 @@
 // The plain run of a plan over words by a modulus: each addition adds two registers. The public call is `plain_run`; the rest is an inside
 // of it.
+#![tactic(auto)]
+
 mod accepted;
 mod call;
 mod steps;

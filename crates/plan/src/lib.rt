@@ -1,5 +1,7 @@
 // The plan library: every public call. Each takes any input and finishes; it finds bad input itself and answers the
 // refusal number of the table, 0 where nothing is refused. `body` alone answers no number: its part is empty instead.
+#![tactic(auto)]
+
 pub use checking::{Checked, check};
 pub use decode::decode;
 pub use difference::difference_run;

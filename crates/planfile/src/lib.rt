@@ -1,4 +1,6 @@
 // The plan file: pack, unpack and the body. The public calls are those below; the rest is an inside of the library.
+#![tactic(auto)]
+
 mod packing;
 mod trailer;
 mod unpacking;

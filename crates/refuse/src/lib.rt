@@ -1,5 +1,7 @@
 // The table of refusals: each number by name, the length of each buffer, and a test for each number that needs no plan and no file. An
 // inside, for the crates of this repository. A refusal is a number, 0 where nothing is refused; the tests take anything.
+#![tactic(auto)]
+
 mod elements;
 mod lengths;
 mod orders;

@@ -1,5 +1,7 @@
 // The lines of a listing, put one after the other into a lent buffer. An inside, for the crates of this repository: what is put
 // fits, and was judged before.
+#![tactic(auto)]
+
 mod decimal;
 mod decoded;
 mod hexadecimal;

@@ -1,4 +1,6 @@
 // The trace of a plan. The public call is `trace`: it takes anything, and refuses by the table.
+#![tactic(auto)]
+
 mod block;
 mod call;
 mod entry;

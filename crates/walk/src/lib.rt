@@ -1,4 +1,6 @@
 // The walk state and its step. The public call is `step` of a walk state: it takes anything, and refuses by the table.
+#![tactic(auto)]
+
 mod advance;
 mod refusal;
 mod state;

@@ -1,0 +1,20 @@
+-- `count` meets its contract: the number so far and the count of what is left make the whole count.
+-- Assumes nothing.
+use Prim.Native.Nat.{◌-◌}
+use lib.ListN.{get_or}
+use native.Mathlib.Omega.{arith}
+use mathlib.Core.Logic.{⊎_elim}
+use Rattle.ladder.proofs.Lists.{same_is}
+use Rattle.refuse.proofs.Laws.{count_more, count_none}
+use Rattle.refuse.proofs.orders.count.Goals as goal
+
+pub loop-i-preserved : goal.loop-i-preserved
+loop-i-preserved c =
+    let more = count_more c.args.v c.args.s.now c.loop-i.i (omega arith) in
+    let x = get_or c.args.s.now c.loop-i.i 0 in
+    let hit = same_is x c.args.v in
+    ⊎_elim (λ w. omega arith) (λ w. omega arith) c.if-wide-v.branch
+
+pub returns : goal.returns
+returns c =
+    omega (arith, count_none c.args.v c.args.s.now c.loop-i.i (omega arith))
