@@ -7,8 +7,8 @@ use native.Mathlib.Omega.{arith}
 use lib.ListN.{length}
 use Rattle.scalars.proofs.Words.{words_within, word_within}
 use Rattle.scalars.proofs.Below.{below_fails, below_goes, below_ends}
-use Rattle.scalars.proofs.lent.scalars_below.Goals.{In-loop-j}
-use Rattle.scalars.proofs.lent.scalars_below.Goals as goal
+use Rattle.scalars.proofs.in_words.scalars_below.Goals.{In-loop-j}
+use Rattle.scalars.proofs.in_words.scalars_below.Goals as goal
 
 pub loop-j-init : goal.loop-j-init
 loop-j-init c = (omega arith, refl)

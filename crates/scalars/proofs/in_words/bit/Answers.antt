@@ -2,7 +2,7 @@
 -- Assumes nothing.
 use native.Mathlib.Omega.{arith}
 use Rattle.scalars.proofs.Words.{own_bit}
-use Rattle.scalars.proofs.lent.bit.Goals as goal
+use Rattle.scalars.proofs.in_words.bit.Goals as goal
 
 pub returns : goal.returns
 returns c =

@@ -6,7 +6,7 @@ use mathlib.Core.Path.{◌≡◌}
 use lib.ListN.{drop}
 use Rattle.ladder.specs.Lists.{odds}
 use Rattle.ladder.specs.Numbers.{numbers_of}
-use Rattle.scalars.proofs.lent.odd_count.Given as goal
+use Rattle.scalars.proofs.in_words.odd_count.Given as goal
 
 abbrev pub invariant-loop-j : goal.invariant-loop-j
 invariant-loop-j l = (l.j ≤ l.d) × (l.odd ≡ odds (drop l.j (numbers_of l.d l.k l.scalars)))

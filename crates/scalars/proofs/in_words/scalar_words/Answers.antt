@@ -2,7 +2,7 @@
 -- Assumes nothing.
 use mathlib.Core.Path.{refl}
 use Rattle.ladder.specs.Numbers.{scalar_words}
-use Rattle.scalars.proofs.lent.scalar_words.Goals as goal
+use Rattle.scalars.proofs.in_words.scalar_words.Goals as goal
 
 pub returns : goal.returns
 unfolding scalar_words

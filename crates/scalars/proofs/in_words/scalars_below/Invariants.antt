@@ -7,7 +7,7 @@ use lib.Dec.{ltb}
 use lib.ListN.{drop}
 use Rattle.ladder.specs.Lists.{all}
 use Rattle.ladder.specs.Numbers.{numbers_of, scalar_words}
-use Rattle.scalars.proofs.lent.scalars_below.Given as goal
+use Rattle.scalars.proofs.in_words.scalars_below.Given as goal
 
 abbrev pub invariant-loop-j : goal.invariant-loop-j
 invariant-loop-j l =

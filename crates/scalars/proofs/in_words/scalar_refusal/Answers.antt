@@ -3,7 +3,7 @@
 use mathlib.Core.Path.{sym, ap, ◌∙◌}
 use Rattle.ladder.specs.Refusals.{unless, SCALAR, scalar}
 use Rattle.refuse.proofs.Laws.{unless_yes, unless_no}
-use Rattle.scalars.proofs.lent.scalar_refusal.Goals as goal
+use Rattle.scalars.proofs.in_words.scalar_refusal.Goals as goal
 
 pub returns-then-below : goal.returns-then-below
 unfolding scalar

@@ -10,7 +10,7 @@ use Rattle.ladder.proofs.Numbers.{length-numbers_of}
 use Rattle.scalars.specs.Inner.{gathered}
 use Rattle.scalars.proofs.Words.{words_within, word_within}
 use Rattle.scalars.proofs.Gathered.{gathered_past, gathered_none, gathered_small, gathered_more}
-use Rattle.scalars.proofs.lent.gather.Goals as goal
+use Rattle.scalars.proofs.in_words.gather.Goals as goal
 
 pub returns-then-i-l : goal.returns-then-i-l
 returns-then-i-l c =

@@ -6,7 +6,7 @@ use mathlib.Core.Path.{◌≡◌}
 use lib.ListN.{drop}
 use Rattle.ladder.specs.Numbers.{numbers_of}
 use Rattle.scalars.specs.Inner.{gathered}
-use Rattle.scalars.proofs.lent.gather.Given as goal
+use Rattle.scalars.proofs.in_words.gather.Given as goal
 
 abbrev pub invariant-loop-j : goal.invariant-loop-j
 invariant-loop-j l = (l.j ≤ l.d) × (l.bits ≡ gathered (drop l.j (numbers_of l.d l.k l.scalars)) l.i)

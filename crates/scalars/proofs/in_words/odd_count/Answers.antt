@@ -9,7 +9,7 @@ use Rattle.ladder.specs.Lists.{odds}
 use Rattle.ladder.specs.Numbers.{numbers_of}
 use Rattle.scalars.proofs.Words.{words_within, word_within}
 use Rattle.scalars.proofs.Gathered.{odds_none, odds_small, odds_more}
-use Rattle.scalars.proofs.lent.odd_count.Goals as goal
+use Rattle.scalars.proofs.in_words.odd_count.Goals as goal
 
 pub loop-j-init : goal.loop-j-init
 loop-j-init c =
