@@ -55,11 +55,11 @@ loop-k-preserved c =
     let u = unit (goal.at.loop-k-preserved c).In-loop-k in
     let bit = c.bit.ensures in
     elim c.if-bit-eq1.branch [
-      then-bit-eq1 w ↦
+      | then-bit-eq1 w ↦
           rw w.new-is (turning_next p.0 p.1.0 a.signs a.r t h 1 (sym bit ∙ w.if-bit-eq1.true) _ (unit_turned _ u))
-    | else-bit-eq1 w ↦
-        let zero : get_or (bits_of a.d a.r) k 0 ≡ 0 = omega (arith, bit_below a.d a.r k, w.if-bit-eq1.false) in
-        rw w.new-is (turning_next p.0 p.1.0 a.signs a.r t h 0 zero _ (unit_kept _ u))
+      | else-bit-eq1 w ↦
+          let zero : get_or (bits_of a.d a.r) k 0 ≡ 0 = omega (arith, bit_below a.d a.r k, w.if-bit-eq1.false) in
+          rw w.new-is (turning_next p.0 p.1.0 a.signs a.r t h 0 zero _ (unit_kept _ u))
     ]
 
 pub returns : goal.returns

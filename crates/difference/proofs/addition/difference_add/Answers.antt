@@ -1,7 +1,7 @@
 -- `difference_add` meets its contract. The loop's invariant is `Combining`: the sum so far, and the combination of the elements that
 -- are left, make the new register.
 -- Assumes nothing.
-use Rattle.std.proofs.Common.{◌-◌, ◌%◌, ◌<◌, get_or, pos, sym, ap, ◌∙◌, subst, arith, to_z-of_z, w8, SFits, rules}
+use Rattle.std.proofs.Common.{◌%◌, ◌<◌, get_or, pos, sym, ap, ◌∙◌, subst, arith, to_z-of_z, w8, SFits, rules}
 use Rattle.ladder.specs.Matrix.{IsSmall}
 use Rattle.ladder.specs.Registers.{modulus, times_signed}
 use Rattle.registers.proofs.ByModulus.{below_modulus}

@@ -18,8 +18,8 @@ returns-else-c-eq0 c =
     let a = c.args in
     let same = ap (λ z. lt_z z (pos 0)) (sym (to_z-of_z w8 _ c.ranges.c)) in
     elim c.if-c-lt0.branch [
-      then-c-lt0 w ↦ w.signed-is ∙ times_below a.m a.e a.c c.requires.0 (same ∙ w.if-c-lt0.true) n.result n.ensures
-    | else-c-lt0 w ↦
-        w.signed-is
-        ∙ times_above a.m a.e a.c c.requires.0 (same ∙ w.if-c-lt0.false) (λ e. c.if-c-eq0.false (ap (of_z w8) e)) c.requires.1
+      | then-c-lt0 w ↦ w.signed-is ∙ times_below a.m a.e a.c c.requires.0 (same ∙ w.if-c-lt0.true) n.result n.ensures
+      | else-c-lt0 w ↦
+          w.signed-is
+          ∙ times_above a.m a.e a.c c.requires.0 (same ∙ w.if-c-lt0.false) (λ e. c.if-c-eq0.false (ap (of_z w8) e)) c.requires.1
     ]

@@ -154,10 +154,10 @@ loop-k-preserved c =
     let next = stepping_next c.requires c.args.r c.loop-k.invariant c.loop-k-test.true c.bit-b.result c.bit-b.ensures
     _ (ap (set c.loop-k.vector _) (unit_kept _ u)) in
     elim c.if-b-eq1.branch [
-      then-b-eq1 w ↦ rw w.signs-is (next 1 w.if-b-eq1.true _ (unit_turned _ u) _ c.difference_add.ensures)
-    | else-b-eq1 w ↦
-        let place = (read (goal.at.loop-k-preserved c).After-bit-b).place in
-        rw w.signs-is (next 0 (omega (arith, place, w.if-b-eq1.false)) _ (unit_kept _ u) _ c.difference_add.ensures)
+      | then-b-eq1 w ↦ rw w.signs-is (next 1 w.if-b-eq1.true _ (unit_turned _ u) _ c.difference_add.ensures)
+      | else-b-eq1 w ↦
+          let place = (read (goal.at.loop-k-preserved c).After-bit-b).place in
+          rw w.signs-is (next 0 (omega (arith, place, w.if-b-eq1.false)) _ (unit_kept _ u) _ c.difference_add.ensures)
     ]
 
 pub returns : goal.returns

@@ -1,6 +1,6 @@
 -- `difference_steps` meets its contract. The loop's invariant is `DifferenceRunning`: the walk and the registers are those after the steps taken.
 -- Assumes nothing.
-use Rattle.std.proofs.Common.{◌≡◌, ◌+◌, ◌-◌, ◌≤◌, length, sym, arith, length-take-le, rules}
+use Rattle.std.proofs.Common.{◌≡◌, ◌+◌, ◌≤◌, length, sym, arith, length-take-le, rules}
 use Rattle.walk.specs.WalkState.{walk_state}
 use Rattle.difference.proofs.Running.{running_start, bits_there, step_asks, running_next, running_end}
 use Rattle.difference.proofs.steps.difference_steps.Goals.{At-loop-s}

@@ -1,6 +1,6 @@
 -- `deal` meets its contract. The loop's invariant: r is the bits of the first k places as one number. Rests on `dealt_more`.
 -- Assumes nothing.
-use Prim.Native.Nat.{◌<◌, ◌-◌}
+use Prim.Native.Nat.{◌<◌}
 use mathlib.Core.Path.{◌≡◌, refl}
 use native.Mathlib.Omega.{arith}
 use lib.ListN.{length}

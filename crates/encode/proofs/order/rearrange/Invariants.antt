@@ -1,7 +1,6 @@
 -- `rearrange` meets its contract. The loop's invariant is `Filled`: the columns from place `left` on are in the array. Rests on
 -- its start, its step and its end.
 -- Assumes nothing.
-use Prim.Native.Nat.{◌-◌}
 use mathlib.Core.Path.{◌≡◌}
 use lib.ListN.{take, length}
 use Rattle.ladder.specs.Walk.{bits_of}

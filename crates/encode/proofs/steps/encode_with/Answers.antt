@@ -1,7 +1,7 @@
 -- `encode_with` meets its contract. The loop's invariant is `Behind`: i steps are behind, the last ones. Rests on its start, its
 -- step and its end.
 -- Assumes nothing.
-use Prim.Native.Nat.{suc, ◌≤◌, ◌-◌}
+use Prim.Native.Nat.{suc, ◌≤◌}
 use mathlib.Core.Path.{ap, ◌∙◌}
 use mathlib.Core.List.{map}
 use native.Mathlib.Omega.{arith}

@@ -1,7 +1,6 @@
 -- `write_start` meets its contract. The loop's invariant: the first k columns are written, counted from 1. Rests on
 -- `counted_more`.
 -- Assumes nothing.
-use Prim.Native.Nat.{◌-◌}
 use mathlib.Core.Path.{◌≡◌, refl, sym, ◌∙◌}
 use native.Mathlib.Omega.{arith}
 use lib.ListN.{length, length-set}

@@ -1,6 +1,6 @@
 -- `start_walk` meets its contract: the places filled so far hold the start order and +1, the others 0.
 -- Assumes nothing.
-use Prim.Native.Nat.{◌-◌, ◌≤◌}
+use Prim.Native.Nat.{◌≤◌}
 use lib.ListN.{length}
 use native.Mathlib.Omega.{arith}
 use Rattle.ladder.proofs.Tests.{order_long}

@@ -1,6 +1,5 @@
 -- `copy` meets its contract: the bytes that are left, written behind what is there, make the whole (`Copying`).
 -- Assumes nothing.
-use Prim.Native.Nat.{◌-◌}
 use Rattle.lent.proofs.Copied.{copying_start, copying_next, copying_end}
 use borrow.Author.Rules.{rules}
 use Rattle.lent.proofs.bytes.copy.Goals as goal

@@ -1,6 +1,5 @@
 -- `store` meets its contract. The loop's invariant: the first i words are those that are copied.
 -- Assumes nothing.
-use Prim.Native.Nat.{◌-◌}
 use mathlib.Core.List.{◌∷◌, [], ◌++◌}
 use mathlib.Core.Path.{refl, sym, ap, ◌∙◌}
 use native.Mathlib.Numerals.{add-one}

@@ -1,7 +1,7 @@
 -- `plain::steps::plain_step` meets its contract. The loop's invariant is `Summing`: the registers of the additions that are left, behind
 -- those that are made, are the step's.
 -- Assumes nothing.
-use Prim.Native.Nat.{suc, ◌+◌, ◌-◌, ◌≤◌, ◌<◌}
+use Prim.Native.Nat.{suc, ◌+◌, ◌≤◌, ◌<◌}
 use mathlib.Core.Path.{◌≡◌}
 use native.Mathlib.Omega.{arith}
 use lib.ListN.{length, get_or}

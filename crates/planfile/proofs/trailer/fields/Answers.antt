@@ -33,13 +33,12 @@ two_bytes-requires-3 c = omega (arith, twelve (goal.at.two_bytes-requires-3 c).S
 
 pub returns : goal.returns
 unfolding d_in answer_in l_in distance_in trailer_byte trailer_size
-returns c =
-    (
-      refl,
-      record {
-        d_is = rw add-zero c.wide.ensures.0;
-        row_is = c.wide-2.ensures.0;
-        l_is = simp add_assoc at c.two_bytes.ensures.0;
-        distance_is = omega (arith, simp add_assoc at c.two_bytes-2.ensures.0, simp add_assoc at c.two_bytes-3.ensures.0);
-      },
-    )
+returns c = (
+  refl,
+  record {
+    d_is = rw add-zero c.wide.ensures.0;
+    row_is = c.wide-2.ensures.0;
+    l_is = simp add_assoc at c.two_bytes.ensures.0;
+    distance_is = omega (arith, simp add_assoc at c.two_bytes-2.ensures.0, simp add_assoc at c.two_bytes-3.ensures.0);
+  },
+)

@@ -1,6 +1,5 @@
 -- `all_below` meets its contract: what is left of the list passes exactly when the whole does.
 -- Assumes nothing.
-use Prim.Native.Nat.{◌-◌}
 use lib.Dec.{ltb}
 use lib.ListN.{get_or}
 use native.Mathlib.Omega.{arith}
@@ -14,12 +13,11 @@ returns-then-m-s c =
     (le-ltb _ _ c.if-m-s.true) c.loop-i.invariant.1
 
 pub loop-i-preserved : goal.loop-i-preserved
-loop-i-preserved c =
-    (
-      omega arith,
-      all_goes (λ e. ltb e c.args.m) c.args.s.now c.loop-i.i (omega arith)
-          (lt-ltb (get_or c.args.s.now c.loop-i.i 0) c.args.m (omega (arith, c.if-m-s.false))) c.loop-i.invariant.1,
-    )
+loop-i-preserved c = (
+  omega arith,
+  all_goes (λ e. ltb e c.args.m) c.args.s.now c.loop-i.i (omega arith)
+      (lt-ltb (get_or c.args.s.now c.loop-i.i 0) c.args.m (omega (arith, c.if-m-s.false))) c.loop-i.invariant.1,
+)
 
 pub returns : goal.returns
 returns c =

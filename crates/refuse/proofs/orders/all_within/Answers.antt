@@ -1,6 +1,5 @@
 -- `all_within` meets its contract: what is left of the list passes exactly when the whole does.
 -- Assumes nothing.
-use Prim.Native.Nat.{◌-◌}
 use native.Mathlib.Omega.{arith}
 use Rattle.refuse.proofs.Laws.{all_fails, all_goes, all_ends}
 use Rattle.ladder.specs.Refusals.{within}
@@ -12,12 +11,11 @@ returns-then-not-within c =
     (let f = c.if-not-within.true in cc) c.loop-i.invariant.1
 
 pub loop-i-preserved : goal.loop-i-preserved
-loop-i-preserved c =
-    (
-      omega arith,
-      all_goes (within 1 c.args.d) c.args.s.now c.loop-i.i (omega arith)
-          (let f = c.if-not-within.false in cc) c.loop-i.invariant.1,
-    )
+loop-i-preserved c = (
+  omega arith,
+  all_goes (within 1 c.args.d) c.args.s.now c.loop-i.i (omega arith)
+      (let f = c.if-not-within.false in cc) c.loop-i.invariant.1,
+)
 
 pub returns : goal.returns
 returns c =

@@ -1,6 +1,5 @@
 -- `count` meets its contract: the number so far and the count of what is left make the whole count.
 -- Assumes nothing.
-use Prim.Native.Nat.{◌-◌}
 use lib.ListN.{get_or}
 use native.Mathlib.Omega.{arith}
 use Rattle.ladder.proofs.Lists.{same_is}

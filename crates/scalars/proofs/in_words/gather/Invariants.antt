@@ -1,7 +1,7 @@
 -- `gather` meets its contract. The loop goes from the last scalar to the first; its invariant: the bits of the scalars from j on
 -- are gathered. Past the length of the scalars, which are below 2^l, every bit is 0.
 -- Assumes nothing.
-use Prim.Native.Nat.{◌≤◌, ◌-◌}
+use Prim.Native.Nat.{◌≤◌}
 use mathlib.Core.Path.{◌≡◌}
 use lib.ListN.{drop}
 use Rattle.ladder.specs.Numbers.{numbers_of}

@@ -1,7 +1,7 @@
 -- `odd_count` meets its contract. The loop goes from the last scalar to the first; its invariant: the odd ones from j on are
 -- counted.
 -- Assumes nothing.
-use Prim.Native.Nat.{◌≤◌, ◌-◌}
+use Prim.Native.Nat.{◌≤◌}
 use mathlib.Core.Path.{◌≡◌}
 use lib.ListN.{drop}
 use Rattle.ladder.specs.Lists.{odds}

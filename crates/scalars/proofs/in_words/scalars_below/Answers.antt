@@ -1,7 +1,7 @@
 -- `scalars_below` meets its contract. The loop's invariant: all scalars pass exactly if all from j on do. Rests on the top word
 -- deciding (`below_fails`, `below_goes`).
 -- Assumes nothing.
-use Prim.Native.Nat.{◌≤◌, ◌+◌, ◌-◌, ◌*◌}
+use Prim.Native.Nat.{◌≤◌, ◌+◌, ◌*◌}
 use mathlib.Core.Path.{refl}
 use native.Mathlib.Omega.{arith}
 use lib.ListN.{length}

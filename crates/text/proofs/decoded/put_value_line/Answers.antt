@@ -1,6 +1,5 @@
 -- `put_value_line` meets its contract. The loop's invariant is `Fielding`, from where the loop begins: the first j values are put.
 -- Assumes nothing.
-use Prim.Native.Nat.{◌-◌}
 use Rattle.ladder.specs.Listing.{value_word}
 use Rattle.text.proofs.Fields.{line_word, line_room, line_then}
 use Rattle.text.proofs.ValueLine.{values_start, values_asked, values_next, values_room, values_end}

@@ -1,6 +1,5 @@
 -- `put_hexadecimal` meets its contract. The loop's invariant is `Spelling`: the first i digits are put.
 -- Assumes nothing.
-use Prim.Native.Nat.{◌-◌}
 use mathlib.Core.Path.{◌∙◌}
 use native.Mathlib.Omega.{arith}
 use Rattle.ladder.specs.Listing.{hexadecimal}

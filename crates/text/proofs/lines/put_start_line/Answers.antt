@@ -1,6 +1,6 @@
 -- `put_start_line` meets its contract. The loop's invariant is `Fielding`, from the place after the word on: the first i columns are put.
 -- Assumes nothing.
-use Prim.Native.Nat.{◌-◌, ◌<◌}
+use Prim.Native.Nat.{◌<◌}
 use mathlib.Core.Path.{sym}
 use mathlib.Core.List.{[], map}
 use native.Mathlib.Omega.{arith}

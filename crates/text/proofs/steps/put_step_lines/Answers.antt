@@ -1,6 +1,6 @@
 -- `put_step_lines` meets its contract. The loop's invariant: the lines of the first s steps are put.
 -- Assumes nothing.
-use Prim.Native.Nat.{suc, ◌-◌, ◌<◌}
+use Prim.Native.Nat.{suc, ◌<◌}
 use mathlib.Core.Path.{◌≡◌}
 use native.Mathlib.Numerals.{add-one}
 use native.Mathlib.Omega.{arith}

@@ -139,9 +139,9 @@ loop-k-preserved c =
     let next = walked_next c.requires.0 c.args.r _ c.args.at c.loop-k.invariant c.loop-k-test.true
     c.bit-b.result c.bit-b.ensures _ (ap (set c.loop-k.vector _) (unit_kept _ u)) in
     elim c.if-b-eq1.branch [
-      then-b-eq1 w ↦ rw w.signs-is (next 1 w.if-b-eq1.true _ (unit_turned _ u) _ c.write_entry-in-loop-k.ensures)
-    | else-b-eq1 w ↦
-        rw w.signs-is (next 0 (omega (arith, (read (goal.at.loop-k-preserved c).After-bit-b).place, w.if-b-eq1.false)) _ (unit_kept _ u) _ c.write_entry-in-loop-k.ensures)
+      | then-b-eq1 w ↦ rw w.signs-is (next 1 w.if-b-eq1.true _ (unit_turned _ u) _ c.write_entry-in-loop-k.ensures)
+      | else-b-eq1 w ↦
+          rw w.signs-is (next 0 (omega (arith, (read (goal.at.loop-k-preserved c).After-bit-b).place, w.if-b-eq1.false)) _ (unit_kept _ u) _ c.write_entry-in-loop-k.ensures)
     ]
 
 pub returns : goal.returns

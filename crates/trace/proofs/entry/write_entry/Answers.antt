@@ -1,7 +1,6 @@
 -- `write_entry` meets its contract. The loop's invariant is `Writing`: the bytes that are left, written
 -- behind what is there, make the entry.
 -- Assumes nothing.
-use Prim.Native.Nat.{◌-◌}
 use mathlib.Core.Path.{◌≡◌, ap, ◌∙◌}
 use native.Mathlib.Omega.{arith}
 use lib.IntN.{pos}

@@ -1,7 +1,7 @@
 -- `trace_steps` meets its contract. The loop's invariant is `Tracing`: the steps that are left, written
 -- behind what is there, make the trace.
 -- Assumes nothing.
-use Prim.Native.Nat.{◌+◌, ◌-◌, ◌*◌, ◌^◌, ◌≤◌, ◌<◌}
+use Prim.Native.Nat.{◌+◌, ◌*◌, ◌^◌, ◌≤◌, ◌<◌}
 use native.Mathlib.Omega.{arith}
 use lib.ListN.{length}
 use Rattle.walk.specs.WalkState.{walk_state}
@@ -15,11 +15,10 @@ room : (b : After-step_bits-r)
     ≤ length b.loop-s.out)
     × (length b.loop-s.out < 2 ^ 64)
 unfolding walk_state
-room b =
-    (
-      block_room b.requires b.loop-s.invariant (omega (arith, b.loop-s-test.true)) _ b.step_bits-r.ensures,
-      omega (arith, b.loop-s.invariant.long, b.well_formed),
-    )
+room b = (
+  block_room b.requires b.loop-s.invariant (omega (arith, b.loop-s-test.true)) _ b.step_bits-r.ensures,
+  omega (arith, b.loop-s.invariant.long, b.well_formed),
+)
 
 pub loop-s-init : goal.loop-s-init
 loop-s-init c = tracing_start c.requires

@@ -71,8 +71,7 @@ loop-k-preserved c =
     c.push.result c.push.ensures
 
 pub returns : goal.returns
-returns c =
-    (
-      filling_end c.args.d c.args.old c.args.r c.requires.0 c.loop-k.invariant.filling (search rules),
-      pushing_end c.requires.0 c.requires.1.0 c.args.r c.loop-k.invariant (search rules),
-    )
+returns c = (
+  filling_end c.args.d c.args.old c.args.r c.requires.0 c.loop-k.invariant.filling (search rules),
+  pushing_end c.requires.0 c.requires.1.0 c.args.r c.loop-k.invariant (search rules),
+)

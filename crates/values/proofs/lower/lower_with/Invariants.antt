@@ -1,6 +1,5 @@
 -- `lower_with` meets its contract: what is held and what is stored are the digits of the signs so far.
 -- Assumes nothing.
-use Rattle.std.proofs.Common.{◌-◌}
 use Rattle.walk.specs.WalkState.{walk_state}
 use Rattle.values.proofs.Lowering.{Lowering}
 use Rattle.values.proofs.lower.lower_with.Given as goal

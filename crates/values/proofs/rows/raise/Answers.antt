@@ -1,7 +1,7 @@
 -- `raise` meets its contract: the values before j are done, the others are as they came.
 -- Assumes nothing.
 use Rattle.values.specs.Inner.{raised_one}
-use Rattle.std.proofs.Common.{◌-◌, get_or, ap, ◌∙◌, arith}
+use Rattle.std.proofs.Common.{get_or, ap, ◌∙◌, arith}
 use Rattle.values.proofs.Raising.{raising_starts, raising_digit, raising_room, raising_word, raising_next, raising_ends}
 use Rattle.values.proofs.rows.raise.Goals as goal
 

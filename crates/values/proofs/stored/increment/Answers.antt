@@ -1,6 +1,6 @@
 -- `increment` meets its contract: the words passed were full and are 0, and the one is owed to the next word.
 -- Assumes nothing.
-use Rattle.std.proofs.Common.{◌≡◌, ◌-◌, ◌*◌, ◌^◌, length, set, sym, refl, ap, ◌∙◌, arith, length-set}
+use Rattle.std.proofs.Common.{◌≡◌, ◌*◌, ◌^◌, length, set, sym, refl, ap, ◌∙◌, arith, length-set}
 use Rattle.ladder.proofs.Numbers.{words_of-number_of}
 use Rattle.values.proofs.Words.{words_set, carry_ends, carry_on}
 use Rattle.ladder.specs.Numbers.{number_of, words_of}

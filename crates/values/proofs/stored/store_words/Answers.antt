@@ -1,6 +1,6 @@
 -- `store_words` meets its contract: one store a value, each at its word.
 -- Assumes nothing.
-use Rattle.std.proofs.Common.{◌≡◌, ◌+◌, ◌-◌, ◌*◌, ◌<◌, length, get_or, set, ap, ◌∙◌, arith}
+use Rattle.std.proofs.Common.{◌≡◌, ◌+◌, ◌*◌, ◌<◌, length, get_or, set, ap, ◌∙◌, arith}
 use Rattle.values.proofs.Words.{word_inside, length-stored, stored_next, stored_none}
 use Rattle.values.specs.Inner.{stored}
 use Rattle.values.proofs.stored.store_words.Goals.{In-loop-j}

@@ -1,6 +1,5 @@
 -- `units` meets its contract. The loop's invariant: the signs passed are 1 or -1.
 -- Assumes nothing.
-use Prim.Native.Nat.{◌-◌}
 use mathlib.Core.Path.{sym, ap, ◌∙◌}
 use native.Mathlib.Omega.{arith}
 use borrow.Author.Count.{below_more}

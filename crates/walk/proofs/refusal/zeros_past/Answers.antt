@@ -1,6 +1,6 @@
 -- `zeros_past` meets its contract. The loop's invariant: the places passed are free.
 -- Assumes nothing.
-use Prim.Native.Nat.{◌-◌, ◌≤◌}
+use Prim.Native.Nat.{◌≤◌}
 use mathlib.Core.Path.{◌≡◌, ap}
 use native.Mathlib.Omega.{arith}
 use borrow.Author.Count.{below_more}
