@@ -1,6 +1,6 @@
 /*
- * Immarduzh: plans for the Montgomery ladder in many dimensions. The eleven calls of the archive libcapi.a, which is for x86-64, for C99
- * and C++.
+ * Immarduzh: plans for the Montgomery ladder in many dimensions. The eleven calls of the archive libcapi.a, which is for x86-64 or for 64-bit
+ * Arm, for C99 and C++.
  *
  * Numbers
  *   d         the dimension, 1 to 8. Columns are numbered 1 to d, rows 1 to d+1.

@@ -42,7 +42,7 @@ class Source:
             module = self.whole(module)
             for each in names.split(',') if names else []:
                 name, _, other = each.strip().partition(' as ')
-                self.used[(other or name.rpartition('.')[2]).strip('_')] = f'{module}.{name}'
+                self.used[(other or name.rpartition('.')[2]).strip('◌')] = f'{module}.{name}'
             if not names:
                 self.used[alias or module.rpartition('.')[2]] = module
         self.opens = re.findall(r'^pub mod (\S+)$', text, re.M)
@@ -110,14 +110,12 @@ class Tree:
         return self.sources[path].declared if path in self.sources else []
 
     def meant(self, path):
-        """What a whole path names: `Rattle·CRATE.specs.MODULE.NAME`, or with `Rattle·CRATE·specs` before."""
-        found = re.match(r'Rattle·(\w+)(?:·\w+)?\.(.+)\.(.+)', path)
+        """What a whole path names: `Rattle.CRATE.specs.MODULE.NAME`, or with `proofs`."""
+        found = re.match(r'Rattle\.(\w+)\.((?:specs|proofs)\..+)\.(.+)', path)
         return self.find(f'crates/{found[1]}/{found[2].replace(".", "/")}.antt', found[3]) if found else []
 
     def spoken_of(self, declared):
-        """The definitions that its text names, of its own file or by a path. A `pub c : T` can be one too: of these it is what has no hyphen
-        in its name."""
+        """What its text names, of its own file or by a path: definitions, and a `pub c : T` that stands for a number or the like."""
         words, source = declared.words(), declared.source
-        found = [d for d in source.declared if declared.sees(d) and d.name.strip('_') in words]
-        found += [d for word in words for d in self.meant(source.whole(word))]
-        return [d for d in found if d.definition or '-' not in d.name]
+        found = [d for d in source.declared if declared.sees(d) and d.name.strip('◌') in words]
+        return found + [d for word in words for d in self.meant(source.whole(word))]

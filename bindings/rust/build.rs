@@ -1,4 +1,4 @@
-//! Links libcapi.a, from the folder that IMMARDUZH_LIB names, an absolute path, else from where `tools/archive capi` leaves it on x86-64.
+//! Links libcapi.a, from the folder that IMMARDUZH_LIB names, an absolute path, else from where `tools/archive capi` leaves it.
 use std::env;
 use std::path::PathBuf;
 use std::process::exit;
@@ -7,7 +7,7 @@ fn main() {
     let here = PathBuf::from(env::var_os("CARGO_MANIFEST_DIR").unwrap_or_default());
     let folder = match env::var_os("IMMARDUZH_LIB") {
         Some(folder) => PathBuf::from(folder),
-        None => here.join("../../target/staticlib"),
+        None => here.join("../../crates/capi/out"),
     };
     let archive = folder.join("libcapi.a");
     println!("cargo:rerun-if-env-changed=IMMARDUZH_LIB");
