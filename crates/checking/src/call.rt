@@ -10,7 +10,7 @@ use refuse::OK;
 use scalars::scalar_refusal;
 
 // What check answers: the refusal, and yes or no, no where it refuses.
-#[derive(Drop)]
+#[derive(Clone, Copy)]
 pub struct Checked {
     pub refusal: u64,
     pub yes: bool,

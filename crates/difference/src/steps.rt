@@ -13,7 +13,7 @@ use registers::add;
 use walk::Walk;
 
 // What the run has after a step.
-#[derive(Drop)]
+#[derive(Clone, Copy)]
 pub struct Held {
     pub walk: Walk,
     pub regs: [u64; 9],

@@ -9,7 +9,7 @@ use refuse::{OK, bits_length, first, scalars_length, shape};
 use scalars::{odd_count, scalar_refusal};
 
 // What encode answers: the refusal, 0 where nothing is refused, and the answer row, 0 where something is.
-#[derive(Drop)]
+#[derive(Clone, Copy)]
 pub struct Encoded {
     pub refusal: u64,
     pub row: u64,

@@ -2,7 +2,7 @@
 ghost use Rattle.encode.specs.Inner.Packing.{Room, Put};
 
 // The bytes from `at` on are written. The bits that come before them, `held` of them, are still held in `fill`, the last lowest.
-#[derive(Drop)]
+#[derive(Clone, Copy)]
 pub struct Packing {
     pub at: usize,
     pub held: usize,

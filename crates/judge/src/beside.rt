@@ -6,7 +6,7 @@ ghost use Rattle.judge.specs.Inner.{beside_shape};
 use refuse::{file_length, first, scalars_length, shape, trace_length, values_length};
 
 // The call's other buffers, by how many elements each has.
-#[derive(Drop)]
+#[derive(Clone, Copy)]
 pub enum Beside {
     Values(usize),
     Scalars(usize),

@@ -14,7 +14,7 @@ pub const LONGEST_FILE: usize = 4096;
 pub const LONGEST_TEXT: usize = 8589;
 
 // What the listing answers: the refusal, and how many bytes of the buffer are text, 0 where it refuses.
-#[derive(Drop)]
+#[derive(Clone, Copy)]
 pub struct Listed {
     pub refusal: u64,
     pub length: usize,

@@ -11,7 +11,7 @@ use refuse::{OK, TRAILER, TRAILER_SIZE};
 pub const MARK: [u8; 4] = *b"dmul";
 
 // A refusal, and what a trailer says, which counts only where the refusal is 0.
-#[derive(Drop)]
+#[derive(Clone, Copy)]
 pub struct Trailer {
     pub refusal: u64,
     pub d: u64,

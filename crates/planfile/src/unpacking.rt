@@ -5,7 +5,7 @@ use crate::whole::{body_part, judged};
 use refuse::{OK, TRAILER_SIZE};
 
 // What unpack answers: the refusal, and d, l and the answer row, 0 where it refuses.
-#[derive(Drop)]
+#[derive(Clone, Copy)]
 pub struct Unpacked {
     pub refusal: u64,
     pub d: u64,

@@ -2,6 +2,6 @@
 // repository: the functions ask that what they get was judged before.
 #![tactic(auto)]
 
-mod lent;
+mod in_words;
 
-pub use lent::{gather, odd_count, scalar_refusal, scalar_words};
+pub use in_words::{gather, odd_count, scalar_refusal, scalar_words};

@@ -6,7 +6,7 @@ use crate::steps::trace_steps;
 use judge::{Beside, loose_refusal, start_walk};
 
 // What a trace answers: the refusal, and the doublings and the additions written, 0 where it refuses.
-#[derive(Drop)]
+#[derive(Clone, Copy)]
 pub struct Traced {
     pub refusal: u64,
     pub doublings: u64,

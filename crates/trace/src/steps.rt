@@ -8,7 +8,7 @@ use bits::step_bits;
 use walk::Walk;
 
 // The operations written.
-#[derive(Drop)]
+#[derive(Clone, Copy)]
 pub struct Counts {
     pub doublings: u64,
     pub additions: u64,

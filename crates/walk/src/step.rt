@@ -6,7 +6,7 @@ use crate::refusal::step_refusal;
 use crate::state::Walk;
 
 // What a step answers: the refusal, and the next walk state; where it refuses, the state that was handed in.
-#[derive(Drop)]
+#[derive(Clone, Copy)]
 pub struct Stepped {
     pub refusal: u64,
     pub walk: Walk,

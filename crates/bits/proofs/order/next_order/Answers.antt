@@ -19,7 +19,7 @@ read c = filling_reads c.loop-k.invariant c.loop-k-test.true c.bit-b.result c.bi
 pub loop-k-init : goal.loop-k-init
 loop-k-init c =
     let a = c.args in
-    filling_start a.d a.old a.r (search rules) c.ones_in_lem.result c.ones_in_lem.ensures
+    filling_start a.d a.old a.r (search rules) c.ones_in-x.result c.ones_in-x.ensures
 
 pub overflow_sub-x : goal.overflow_sub-x
 overflow_sub-x c = (read c).0

@@ -1,7 +1,6 @@
 -- `next_signs` meets its contract. The loop's invariant is `Turning`: the columns at the places passed have their new signs.
 -- Assumes nothing.
 use Prim.Native.Nat.{◌-◌, ◌≤◌, ◌<◌}
-use mathlib.Core.Logic.{⊎_elim}
 use mathlib.Core.Path.{◌≡◌, ◌∙◌, sym}
 use native.Mathlib.Omega.{arith}
 use lib.IntN.{pos}
@@ -12,7 +11,7 @@ use Rattle.bits.proofs.SmallSigns.{unit_kept, unit_fits, unit_turned}
 use Rattle.bits.proofs.StepBits.{bit_below}
 use Rattle.bits.proofs.Turning.{column_at, turning_start, turning_next, turning_end}
 use borrow.Author.Rules.{rules}
-use Rattle.bits.proofs.signs.next_signs.Goals.{In-loop-k}
+use Rattle.bits.proofs.signs.next_signs.Goals.{In-loop-k, then-bit-eq1, else-bit-eq1}
 use Rattle.bits.proofs.signs.next_signs.Goals as goal
 
 -- The place holds a column from 1 to d ..
@@ -55,12 +54,13 @@ loop-k-preserved c =
     let h = c.loop-k-test.true in
     let u = unit (goal.at.loop-k-preserved c).In-loop-k in
     let bit = c.bit.ensures in
-    ⊎_elim
-    (λ w. rw w.1 (turning_next p.0 p.1.0 a.signs a.r t h 1 (sym bit ∙ w.0.true) _ (unit_turned _ u)))
-    (λ w.
-    let zero : get_or (bits_of a.d a.r) k 0 ≡ 0 = omega (arith, bit_below a.d a.r k, w.0.false) in
-    rw w.1 (turning_next p.0 p.1.0 a.signs a.r t h 0 zero _ (unit_kept _ u)))
-    c.if-bit-eq1.branch
+    elim c.if-bit-eq1.branch [
+      then-bit-eq1 w ↦
+          rw w.new-is (turning_next p.0 p.1.0 a.signs a.r t h 1 (sym bit ∙ w.if-bit-eq1.true) _ (unit_turned _ u))
+    | else-bit-eq1 w ↦
+        let zero : get_or (bits_of a.d a.r) k 0 ≡ 0 = omega (arith, bit_below a.d a.r k, w.if-bit-eq1.false) in
+        rw w.new-is (turning_next p.0 p.1.0 a.signs a.r t h 0 zero _ (unit_kept _ u))
+    ]
 
 pub returns : goal.returns
 returns c =

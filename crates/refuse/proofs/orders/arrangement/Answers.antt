@@ -1,7 +1,6 @@
 -- `arrangement` meets its contract: length, range and counts, in that order.
 -- Assumes nothing.
 use mathlib.Core.Path.{sym, ◌∙◌}
-use borrow.Author.Tests.{not-true, not-false}
 use Rattle.refuse.proofs.Laws.{arranged_long, arranged_inside, arranged_once}
 use Rattle.refuse.proofs.orders.arrangement.Goals as goal
 
@@ -9,9 +8,9 @@ pub returns-then-s-d : goal.returns-then-s-d
 returns-then-s-d c = sym (arranged_long _ _ c.if-s-d.true)
 
 pub returns-then-not-all_within : goal.returns-then-not-all_within
-returns-then-not-all_within c = sym (arranged_inside _ _ c.if-s-d.false (sym c.all_within.ensures ∙ not-true _ c.if-not-all_within.true))
+returns-then-not-all_within c = sym (arranged_inside _ _ c.if-s-d.false (sym c.all_within.ensures ∙ c.if-not-all_within.true))
 
 pub returns : goal.returns
 returns c =
     c.each_once.ensures
-    ∙ sym (arranged_once _ _ c.if-s-d.false (sym c.all_within.ensures ∙ not-false _ c.if-not-all_within.false))
+    ∙ sym (arranged_once _ _ c.if-s-d.false (sym c.all_within.ensures ∙ c.if-not-all_within.false))

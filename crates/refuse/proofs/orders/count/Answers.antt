@@ -3,9 +3,9 @@
 use Prim.Native.Nat.{◌-◌}
 use lib.ListN.{get_or}
 use native.Mathlib.Omega.{arith}
-use mathlib.Core.Logic.{⊎_elim}
 use Rattle.ladder.proofs.Lists.{same_is}
 use Rattle.refuse.proofs.Laws.{count_more, count_none}
+use Rattle.refuse.proofs.orders.count.Goals.{then-wide-v, else-wide-v}
 use Rattle.refuse.proofs.orders.count.Goals as goal
 
 pub loop-i-preserved : goal.loop-i-preserved
@@ -13,7 +13,7 @@ loop-i-preserved c =
     let more = count_more c.args.v c.args.s.now c.loop-i.i (omega arith) in
     let x = get_or c.args.s.now c.loop-i.i 0 in
     let hit = same_is x c.args.v in
-    ⊎_elim (λ w. omega arith) (λ w. omega arith) c.if-wide-v.branch
+    elim c.if-wide-v.branch [ then-wide-v w ↦ omega arith | else-wide-v w ↦ omega arith ]
 
 pub returns : goal.returns
 returns c =
