@@ -1,5 +1,5 @@
 // The decimal numbers of a text: what stands between them is for the reader.
-#[derive(Drop)]
+#[derive(Clone, Copy)]
 pub struct Number {
     pub value: u64,
     // where the text goes on
