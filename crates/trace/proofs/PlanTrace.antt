@@ -45,9 +45,9 @@ module _ (p : Plan) (ok : Accepted p) where
   unfolding signs_in
   signs_places s = length-signs_after p.d (start_order p) (step_bits p) s
 
-  block_in : (s : ℕ) → walk_block p.d (signs_in p s) (step_order (order_in p s) (step_bits p s)) (step_bits p s) ≡ block_in p s
+  block_in_lem : (s : ℕ) → walk_block p.d (signs_in p s) (step_order (order_in p s) (step_bits p s)) (step_bits p s) ≡ block_in p s
   unfolding block_in
-  block_in s =
+  block_in_lem s =
       ap (λ signs. walk_block p.d signs (step_order (order_in p s) (step_bits p s)) (step_bits p s)) (sym (signs_in_lem p ok s))
       ∙ walk_block_lem (state_in p ok s) (step_bits p s) (length-step_bits p s)
 
@@ -59,7 +59,7 @@ module _ (p : Plan) (ok : Accepted p) where
   walk_entries_lem (suc n) s =
       entries_of p.d (order_in p s) (signs_in p s) p.bits s n (step_bits p s) (order_places s) (signs_places s) refl
       ∙ ap₂ (λ b es. b ++ es)
-      (block_in s ∙ ap (block_in p) (sym (add-zero s)))
+      (block_in_lem s ∙ ap (block_in p) (sym (add-zero s)))
       (walk_entries_lem n (suc s) ∙ joined_same n _ _ (λ i h. ap (block_in p) (omega arith)))
       ∙ sym (joined_front n (λ i. block_in p (s + i)))
 
