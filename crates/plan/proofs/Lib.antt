@@ -1,4 +1,4 @@
 -- Laws that speak of more than one call, from the promises alone.
-pub mod Encoded
+pub mod Encoding
 pub mod Runs
 pub mod Files

@@ -11,11 +11,11 @@ use Rattle.trace.proofs.PlanTrace.{can_trace, traced_in}
 use Rattle.trace.proofs.call.trace.Goals.{After-loose_refusal-refusal, Else-refusal-ne-OK}
 use Rattle.trace.proofs.call.trace.Goals as goal
 
--- The plan is judged with the trace's (beside.args.out.now) it.
+-- The plan is judged with the trace's buffer beside it.
 judged : (c : After-loose_refusal-refusal) → c.loose_refusal-refusal.result ≡ trace_refusal (plan_lent c.args.d c.args.l c.args.start.now c.args.bits.now c.args.row) (c.args.out.now)
 judged c = c.loose_refusal-refusal.ensures ∙ trace_beside (plan_lent c.args.d c.args.l c.args.start.now c.args.bits.now c.args.row) (c.args.out.now)
 
--- Where nothing is refused, it is accepted, and every (has.args.out.now) its length.
+-- Where nothing is refused, it is accepted, and every buffer has its length.
 asked : (e : Else-refusal-ne-OK) → TraceOk (plan_lent e.args.d e.args.l e.args.start.now e.args.bits.now e.args.row) (e.args.out.now)
 asked e = (trace_none _ _).0 (sym (e.loose_refusal-refusal.ensures ∙ trace_beside (plan_lent e.args.d e.args.l e.args.start.now e.args.bits.now e.args.row) (e.args.out.now)) ∙ e.if-refusal-ne-OK.false)
 

@@ -12,7 +12,7 @@ loop-k-init c =
     pushing_start c.requires.0 c.requires.1.0 c.args.r c.args.held.now c.requires.1.1 c.ones_in-x.result
     (filling_start c.args.d c.args.old c.args.r c.requires.0 c.ones_in-x.result c.ones_in-x.ensures)
 
--- The bit is 0 or 1, and at most x; the (read.loop.x - read.bit.result + read.loop.k * (1 - read.bit.result)) is inside.
+-- The bit is 0 or 1, and at most x; the place read is inside.
 room : (c : After-bit-b)
     → (c.bit-b.result ≤ c.loop-k.x) × (c.bit-b.result < 2) × ((c.loop-k.x - c.bit-b.result + c.loop-k.k * (1 - c.bit-b.result)) < 8) × (c.loop-k.k * (1 - c.bit-b.result) ≤ 8)
 room c =
@@ -22,7 +22,7 @@ room c =
     let read = place_read c.loop-k.x c.loop-k.k c.bit-b.result c.args.d (omega (arith, at, e)) (omega (arith, at, e)) (omega (arith, at, e)) in
     (omega (arith, at, e), omega (arith, at, e), omega (arith, read, p.0), omega (arith, read, p.0, c.loop-k-test.true))
 
--- The (holds.loop.x - holds.bit.result + holds.loop.k * (1 - holds.bit.result)) a column from 1 to d.
+-- The place holds a column from 1 to d.
 inside : (c : After-bit-b) → let o = get_or c.args.old (c.loop-k.x - c.bit-b.result + c.loop-k.k * (1 - c.bit-b.result)) 0 in (1 ≤ o) × (o - 1 < c.args.d) × (o ≤ 8)
 inside c =
     place_inside c.requires.0 c.requires.1.0 c.args.r c.loop-k.invariant c.loop-k-test.true c.bit-b.result c.bit-b.ensures

@@ -1,0 +1,7 @@
+-- `immarduzh_step` keeps its promise: the library's, of a walk state whose d the step keeps (InPlace).
+-- Assumes nothing.
+use Rattle.capi.proofs.InPlace.{in_place}
+use Rattle.capi.proofs.walking.immarduzh_step.Goals as goal
+
+pub returns : goal.returns
+returns c = in_place c.step-r.ensures
