@@ -8,7 +8,6 @@ use Rattle.walk.specs.WalkState.{walk_state}
 use Rattle.judge.proofs.Starting.{can_start}
 use Rattle.registers.proofs.Ran.{startable, room, run_left}
 use Rattle.difference.proofs.Ran.{difference_steps_ask, difference-ran}
-use borrow.Author.Rules.{rules}
 use Rattle.difference.proofs.accepted.difference_accepted.Goals.{After-difference_steps-regs, After-slice_known-1, Start}
 use Rattle.difference.proofs.accepted.difference_accepted.Goals as goal
 

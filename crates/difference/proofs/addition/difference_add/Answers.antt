@@ -6,7 +6,6 @@ use Rattle.ladder.specs.Matrix.{IsSmall}
 use Rattle.ladder.specs.Registers.{modulus, times_signed}
 use Rattle.registers.proofs.ByModulus.{below_modulus}
 use Rattle.difference.proofs.Combining.{combining_start, combining_next, combining_end}
-use borrow.Author.Rules.{rules}
 use Rattle.difference.proofs.addition.difference_add.Goals as goal
 
 pub add-sum-requires : goal.add-sum-requires

@@ -7,7 +7,6 @@ use Rattle.walk.specs.WalkState.{walk_state}
 use Rattle.bits.proofs.SmallSigns.{unit_kept, unit_fits, unit_turned}
 use Rattle.bits.proofs.Moving.{comes, Reads, moving_reads}
 use Rattle.difference.proofs.Stepping.{doubled, stepping_start, stepping_room, stepping_wide, stepping_asks, stepping_next, stepping_end}
-use borrow.Author.Rules.{rules}
 use Rattle.difference.proofs.steps.difference_step.Goals.{then-b-eq1, else-b-eq1, After-bit-b, After-ones_in-x}
 use Rattle.difference.proofs.steps.difference_step.Goals as goal
 

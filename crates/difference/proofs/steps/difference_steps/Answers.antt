@@ -3,7 +3,6 @@
 use Rattle.std.proofs.Common.{◌≡◌, ◌+◌, ◌-◌, ◌≤◌, length, sym, arith, length-take-le, rules}
 use Rattle.walk.specs.WalkState.{walk_state}
 use Rattle.difference.proofs.Running.{running_start, bits_there, step_asks, running_next, running_end}
-use borrow.Author.Rules.{rules}
 use Rattle.difference.proofs.steps.difference_steps.Goals.{At-loop-s}
 use Rattle.difference.proofs.steps.difference_steps.Goals as goal
 

@@ -2,7 +2,6 @@
 -- Assumes nothing.
 use Rattle.std.proofs.Common.{rules}
 use Rattle.values.proofs.Pushing.{word_pushed}
-use borrow.Author.Rules.{rules}
 use Rattle.values.proofs.digits.push.Goals as goal
 
 pub returns : goal.returns

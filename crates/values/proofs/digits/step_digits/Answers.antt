@@ -3,7 +3,6 @@
 use Rattle.std.proofs.Common.{◌+◌, ◌-◌, ◌*◌, ◌<◌, ◌≤◌, get_or, arith, rules}
 use Rattle.bits.proofs.Filling.{filling_start, filling_room, filling_end}
 use Rattle.values.proofs.Pushing.{pushing_start, place_read, place_inside, pushing_next, pushing_end}
-use borrow.Author.Rules.{rules}
 use Rattle.values.proofs.digits.step_digits.Goals.{After-bit-b}
 use Rattle.values.proofs.digits.step_digits.Goals as goal
 
