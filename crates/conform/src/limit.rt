@@ -1,6 +1,7 @@
 // The most that a request can lend, which is somewhat more than the calls accept, but unpack and body, which take a file of any length. A
 // request that lends more is refused by a line that says so, and what it lends is passed over.
 use crate::request::Lent;
+use std::io::{self, Read, Write};
 use wire::{show, stream};
 
 // The most output, for calls that have any.
@@ -19,7 +20,7 @@ pub fn passed(call: u64, lent: Lent) -> bool {
     lent.start > 64 || lent.bits > 65536 || lent.words > 128 || lent.out > output(call)
 }
 
-fn write(lent: Lent) {
+fn write<W: Write>(output: &mut W, lent: Lent) -> io::Result<()> {
     let mut line = [0u8; 256];
     let start = show::number(
         &mut line,
@@ -30,14 +31,20 @@ fn write(lent: Lent) {
     let bits = show::number(&mut line, start, b" bits ", lent.bits);
     let words = show::number(&mut line, bits, b" words ", lent.words);
     let out = show::number(&mut line, words, b" output ", lent.out);
-    show::end(&mut line, out);
+    show::end(output, &mut line, out)
 }
 
 // Says so, and passes over what is lent; answers where the text goes on.
-pub fn refuse(text: &mut [u8], at: usize, lent: Lent) -> usize {
-    write(lent);
-    let start = stream::pass(text, at, lent.start);
-    let bits = stream::pass(text, start, lent.bits);
-    let modulus = stream::pass(text, bits, lent.moduli);
-    stream::pass(text, modulus, lent.words)
+pub fn refuse<R: Read, W: Write>(
+    input: &mut R,
+    output: &mut W,
+    text: &mut [u8],
+    at: usize,
+    lent: Lent,
+) -> io::Result<usize> {
+    write(output, lent)?;
+    let start = stream::pass(input, text, at, lent.start)?;
+    let bits = stream::pass(input, text, start, lent.bits)?;
+    let modulus = stream::pass(input, text, bits, lent.moduli)?;
+    stream::pass(input, text, modulus, lent.words)
 }

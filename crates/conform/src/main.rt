@@ -10,23 +10,28 @@ mod request;
 mod runs;
 mod step;
 
-use libc::STDIN_FILENO;
+use std::io;
 use wire::{numbers, stream};
 
-fn main() {
-    let mut text = io::large_buffer();
-    io::read_full(STDIN_FILENO, &mut text);
+// How much is held of the input, of a file and of an answer.
+const LARGE: usize = 65536;
+
+fn main(rt: HostRuntime) -> io::Result<()> {
+    let mut input = rt.stdin();
+    let mut output = rt.stdout();
+    let mut text = [0u8; LARGE];
+    stream::read_full(&mut input, &mut text)?;
     let first = numbers::next(&text, 0);
     let count = first.value;
     let mut at = first.next;
     let mut i = 0u64;
     while i < count {
-        let from = stream::refill(&mut text, at);
-        at = request::answer(&mut text, from);
+        let from = stream::refill(&mut input, &mut text, at)?;
+        at = request::answer(&mut input, &mut output, &mut text, from)?;
         if at == text.len() {
-            request::cut();
-            return;
+            return request::cut(&mut output);
         }
         i += 1;
     }
+    Ok(())
 }

@@ -2,10 +2,11 @@
 // bits and words hold. A step has its number for l, its order for start and its signs for bits. A run has its modulus before the words,
 // which are its elements, and its registers for output. A file is the bits of a request that takes one. Output is lent filled with 170 in
 // every byte or word.
-use crate::{calls, files, limit, runs, step};
+use crate::{LARGE, calls, files, limit, runs, step};
+use std::io::{self, Read, Write};
 use wire::{numbers, part, show, stream};
 
-#[derive(Drop)]
+#[derive(Clone, Copy)]
 pub struct Head {
     pub call: u64,
     pub d: u64,
@@ -42,7 +43,7 @@ fn moduli(which: u64) -> u64 {
 }
 
 // How much a request lends of each.
-#[derive(Drop)]
+#[derive(Clone, Copy)]
 pub struct Lent {
     pub start: u64,
     pub bits: u64,
@@ -52,22 +53,35 @@ pub struct Lent {
 }
 
 // Reads the lent start and bits, and answers where the text goes on.
-fn read_bytes(text: &mut [u8], at: usize, start: &mut [u8], bits: &mut [u8]) -> usize {
-    let after_start = stream::bytes(text, at, start);
-    let after_bits = stream::bytes(text, after_start, bits);
+fn read_bytes<R: Read>(
+    input: &mut R,
+    text: &mut [u8],
+    at: usize,
+    start: &mut [u8],
+    bits: &mut [u8],
+) -> io::Result<usize> {
+    let after_start = stream::bytes(input, text, at, start)?;
+    let after_bits = stream::bytes(input, text, after_start, bits)?;
     if after_bits == text.len() {
-        return after_bits;
+        return Ok(after_bits);
     }
-    stream::refill(text, after_bits)
+    stream::refill(input, text, after_bits)
 }
 
 // Reads what is lent, and answers, where the input does not end before.
-fn answer_held(text: &mut [u8], at: usize, head: [u64; 8], lent: Lent) -> usize {
+fn answer_held<R: Read, W: Write>(
+    input: &mut R,
+    output: &mut W,
+    text: &mut [u8],
+    at: usize,
+    head: [u64; 8],
+    lent: Lent,
+) -> io::Result<usize> {
     let mut held_start = [0u8; 64];
     let start = part::bytes_out(&mut held_start, lent.start);
-    let mut held_bits = io::large_buffer();
+    let mut held_bits = [0u8; LARGE];
     let bits = part::bytes_out(&mut held_bits, lent.bits);
-    let after_bits = read_bytes(text, at, start, bits);
+    let after_bits = read_bytes(input, text, at, start, bits)?;
     let mut modulus = [0u64; 1];
     let after_modulus = numbers::words(
         text,
@@ -78,7 +92,7 @@ fn answer_held(text: &mut [u8], at: usize, head: [u64; 8], lent: Lent) -> usize 
     let words = part::words_out(&mut held_words, lent.words);
     let after_words = numbers::words(text, after_modulus, words);
     if after_words == text.len() {
-        return after_words;
+        return Ok(after_words);
     }
     let h = Head {
         call: head[0],
@@ -88,18 +102,23 @@ fn answer_held(text: &mut [u8], at: usize, head: [u64; 8], lent: Lent) -> usize 
         m: modulus[0],
         out: lent.out,
     };
-    let mut line = io::large_buffer();
+    let mut line = [0u8; LARGE];
     let length = call(h, start, bits, words, &mut line);
-    show::end(&mut line, length);
-    after_words
+    show::end(output, &mut line, length)?;
+    Ok(after_words)
 }
 
 // Answers the request at a place of the text, and says where the text goes on; that is its end where the input ends within the request.
-pub fn answer(text: &mut [u8], at: usize) -> usize {
+pub fn answer<R: Read, W: Write>(
+    input: &mut R,
+    output: &mut W,
+    text: &mut [u8],
+    at: usize,
+) -> io::Result<usize> {
     let mut head = [0u64; 8];
     let next = numbers::words(text, at, &mut head);
     if next == text.len() {
-        return next;
+        return Ok(next);
     }
     let lent = Lent {
         start: head[4],
@@ -109,14 +128,14 @@ pub fn answer(text: &mut [u8], at: usize) -> usize {
         out: head[7],
     };
     if limit::passed(head[0], lent) {
-        return limit::refuse(text, next, lent);
+        return limit::refuse(input, output, text, next, lent);
     }
-    answer_held(text, next, head, lent)
+    answer_held(input, output, text, next, head, lent)
 }
 
 // The line of a request in which the input ends.
-pub fn cut() {
+pub fn cut<W: Write>(output: &mut W) -> io::Result<()> {
     let mut line = [0u8; 64];
     let length = show::text(&mut line, 0, b"the input ends within a request");
-    show::end(&mut line, length);
+    show::end(output, &mut line, length)
 }

@@ -4,12 +4,13 @@
 
 mod written;
 
-use libc::{STDIN_FILENO, STDOUT_FILENO};
+use std::io;
+use wire::stream;
 
-fn main() {
+fn main(rt: HostRuntime) -> io::Result<()> {
     let mut file = [0u8; plan::LONGEST_FILE + 1];
-    let n = io::read_full(STDIN_FILENO, &mut file);
+    let n = stream::read_full(&mut rt.stdin(), &mut file)?;
     let mut text = [0u8; plan::LONGEST_TEXT];
     let length = written::put_listing(&file[..n], &mut text);
-    io::write_all(STDOUT_FILENO, &text[..length]);
+    rt.write_all(&text[..length])
 }

@@ -1,5 +1,5 @@
 // The decimal numbers of a text: what stands between them is for the reader.
-#[derive(Drop)]
+#[derive(Clone, Copy)]
 pub struct Number {
     pub value: u64,
     // where the text goes on
@@ -8,11 +8,11 @@ pub struct Number {
 
 // 0 to 9 for a digit, and more for any other byte.
 fn digit(c: u8) -> u64 {
-    std::num::wrapping_sub_u8(c, 48) as u64
+    c.wrapping_sub(48) as u64
 }
 
 fn ten_times(x: u64) -> u64 {
-    std::num::wrapping_add_u64(x << 3, x << 1)
+    (x << 3).wrapping_add(x << 1)
 }
 
 // A number with one digit more, or 2^64 - 1 where it would be above that.
@@ -23,7 +23,7 @@ fn append(x: u64, d: u64) -> u64 {
     if x == 1844674407370955161 && d > 5 {
         return u64::MAX;
     }
-    std::num::wrapping_add_u64(ten_times(x), d)
+    ten_times(x).wrapping_add(d)
 }
 
 // The first digit from a place on, or the end.

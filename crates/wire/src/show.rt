@@ -1,7 +1,8 @@
 // How a line is made: numbers in decimal, bytes and words in lower-case hexadecimal. A line is put together in a buffer, from a place on,
 // and written in one piece.
+use crate::{digits, part};
 use lent::wide;
-use libc::STDOUT_FILENO;
+use std::io::{self, Write};
 
 // More bytes than these are told by their count and two sums.
 const LONG: usize = 1000;
@@ -28,17 +29,18 @@ pub fn text(line: &mut [u8], at: usize, s: &[u8]) -> usize {
 // A label, and a number in decimal.
 pub fn number(line: &mut [u8], at: usize, label: &[u8], n: u64) -> usize {
     let next = text(line, at, label);
-    let mut digits = [0u8; 20];
-    let k = io::decimal(n, &mut digits);
-    text(line, next, &digits[..k])
+    let mut room = [0u8; digits::ROOM];
+    let from = digits::put(n, 10, &mut room);
+    text(line, next, &room[from..])
 }
 
 // A space, and a number in hexadecimal with that many digits at least.
 fn hexadecimal(line: &mut [u8], at: usize, n: u64, least: usize) -> usize {
     let next = character(line, at, b' ');
-    let mut digits = [0u8; 16];
-    let k = io::hex(n, least, &mut digits);
-    text(line, next, &digits[..k])
+    let mut room = [b'0'; digits::ROOM];
+    let from = digits::put(n, 16, &mut room);
+    let padded = from.min(digits::ROOM.saturating_sub(least));
+    text(line, next, &room[padded..])
 }
 
 // A line begins with a call's name, d and l.
@@ -53,15 +55,15 @@ pub fn refusal(line: &mut [u8], at: usize, n: u64) -> usize {
 }
 
 // Writes the line.
-pub fn end(line: &mut [u8], at: usize) {
+pub fn end<W: Write>(output: &mut W, line: &mut [u8], at: usize) -> io::Result<()> {
     let length = character(line, at, b'\n');
-    io::write_all(STDOUT_FILENO, crate::part::bytes(line, length as u64));
+    output.write_all(part::bytes(line, length as u64))
 }
 
 // 2^40 + 2^21 + 2^7 + 1 times as much.
 fn spread(x: u64) -> u64 {
-    let high = std::num::wrapping_add_u64(x << 40, x << 21);
-    std::num::wrapping_add_u64(high, std::num::wrapping_add_u64(x << 7, x))
+    let high = (x << 40).wrapping_add(x << 21);
+    high.wrapping_add((x << 7).wrapping_add(x))
 }
 
 // The sum of the bytes, and their sum with each spread over those before it: for what is too long to write out.
@@ -71,8 +73,8 @@ fn sums(line: &mut [u8], at: usize, s: &[u8]) -> usize {
     let mut i: usize = 0;
     while i < s.len() {
         let b = wide(s[i]);
-        plain = std::num::wrapping_add_u64(plain, b);
-        spread_out = std::num::wrapping_add_u64(spread(spread_out), b);
+        plain = plain.wrapping_add(b);
+        spread_out = spread(spread_out).wrapping_add(b);
         i += 1;
     }
     let count = number(line, at, b" ", s.len() as u64);

@@ -1,9 +1,11 @@
-// Standard input, of which a part is held. From one number to the next is less than half of that part: where half of it has no number the
+// An input, of which a part is held. From one number to the next is less than half of that part: where half of it has no number the
 // input is taken to end, and the place is the text's end from then on.
-ghost use Rattle.std.specs.Prelude.{◌≤◌, length};
+ghost use Rattle.std.specs.Prelude.{◌≤◌, ◌<◌, IfOk, length, take};
+ghost use Rattle.std.specs.Io.{ReadsAtMost};
+ghost use Rattle.std.specs.Io.KnownBytes.{Consumes, IsAtEnd};
 
 use crate::numbers;
-use libc::STDIN_FILENO;
+use std::io::{self, Read};
 
 fn least(a: usize, b: usize) -> usize
     ensures { result ≤ b }
@@ -34,46 +36,68 @@ fn clear(text: &mut [u8], from: usize) {
     }
 }
 
+// Reads until the room is full or the input ends; answers how many bytes that is.
+pub fn read_full<R: Read>(input: &mut R, room: &mut [u8]) -> io::Result<usize>
+    ensures fits { ReadsAtMost result room.new }
+    ensures bytes { IfOk result (λ n. Consumes (R.remaining input.old) (R.remaining input.new) (take n room.new)) }
+    ensures whole { IfOk result (λ n. n < length room.new → IsAtEnd (R.remaining input.new)) }
+{
+    let mut done: usize = 0;
+    while done < room.len() {
+        let n = input.read(&mut room[done..])?;
+        if n == 0 {
+            return Ok(done);
+        }
+        done += n;
+    }
+    Ok(done)
+}
+
 // Once half of the text is read, the rest moves to the front and more is read behind it. Answers where reading goes on.
-pub fn refill(text: &mut [u8], at: usize) -> usize {
+pub fn refill<R: Read>(input: &mut R, text: &mut [u8], at: usize) -> io::Result<usize> {
     if at < text.len() / 2 {
-        return at;
+        return Ok(at);
     }
     let n = text.len();
     let kept = shift(text, least(at, n));
     clear(text, kept);
-    io::read_full(STDIN_FILENO, &mut text[kept..]);
-    0
+    read_full(input, &mut text[kept..])?;
+    Ok(0)
 }
 
 // The next numbers, as many as there is room for, as bytes; answers where the text goes on.
-pub fn bytes(text: &mut [u8], from: usize, out: &mut [u8]) -> usize {
+pub fn bytes<R: Read>(
+    input: &mut R,
+    text: &mut [u8],
+    from: usize,
+    out: &mut [u8],
+) -> io::Result<usize> {
     let mut at = from;
     let mut i: usize = 0;
     while i < out.len() {
-        let held = refill(text, at);
+        let held = refill(input, text, at)?;
         let x = numbers::next(text, held);
         at = x.next;
         if at == text.len() {
-            return at;
+            return Ok(at);
         }
         out[i] = (x.value % 256) as u8;
         i += 1;
     }
-    at
+    Ok(at)
 }
 
 // Passes over so many numbers, or to the end.
-pub fn pass(text: &mut [u8], at: usize, count: u64) -> usize {
+pub fn pass<R: Read>(input: &mut R, text: &mut [u8], at: usize, count: u64) -> io::Result<usize> {
     let mut from = at;
     let mut i = 0u64;
     while i < count {
-        let held = refill(text, from);
+        let held = refill(input, text, from)?;
         from = numbers::next(text, held).next;
         if from == text.len() {
-            return from;
+            return Ok(from);
         }
         i += 1;
     }
-    from
+    Ok(from)
 }

@@ -1,0 +1,7 @@
+-- `wire::stream::bytes` ends: each time less room is left.
+-- Assumes nothing.
+use Rattle.std.proofs.Common.{◌-◌, length}
+use Rattle.wire.proofs.stream.bytes.Given as goal
+
+abbrev pub decreases-loop-i : goal.decreases-loop-i
+decreases-loop-i g l = length l.initial.out - l.i

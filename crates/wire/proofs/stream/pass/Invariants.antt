@@ -1,0 +1,7 @@
+-- `wire::stream::pass` ends: it counts up to the number asked.
+-- Assumes nothing.
+use Rattle.std.proofs.Common.{◌-◌}
+use Rattle.wire.proofs.stream.pass.Given as goal
+
+abbrev pub decreases-loop-i : goal.decreases-loop-i
+decreases-loop-i g l = l.count - l.i
