@@ -1,6 +1,6 @@
 // The public call `listing`.
 ghost use Rattle.std.specs.Prelude.{◌≡◌, leb};
-ghost use Rattle.ladder.specs.Refusals.{unless, BIG};
+ghost use Rattle.ladder.specs.Refusals.{unless, BIG as BIG_NUMBER};
 ghost use Rattle.listing.specs.Promise.{ListingPromise};
 
 use planfile::{body, unpack};
@@ -22,7 +22,7 @@ pub struct Listed {
 
 // Number 10: a file too long to be listed.
 fn big(length: usize) -> u64
-    ensures { result ≡ unless (leb length 4096) BIG }
+    ensures { result ≡ unless (leb length 4096) BIG_NUMBER }
 {
     if length <= LONGEST_FILE { OK } else { BIG }
 }

@@ -1,7 +1,7 @@
 // A function for each number of the table that more than one call can give, and the first refusal that applies. Number 4 stands with the
 // scalars, a walk state's 5 and a step's 3 with the walk, 9 with the plan file, 10 with the listing.
 ghost use Rattle.std.specs.Prelude.{◌≡◌, eqb};
-ghost use Rattle.ladder.specs.Refusals.{◌then◌, unless, within, SHAPE, dim, len, order, answer, too_large, element};
+ghost use Rattle.ladder.specs.Refusals.{◌then◌, unless, within, SHAPE as SHAPE_NUMBER, dim, len, order, answer, too_large, element};
 
 use crate::elements::all_below;
 use crate::orders::arrangement;
@@ -66,7 +66,7 @@ pub fn range(d: u64, l: u64) -> u64
 
 // A buffer of `have` elements that must have `want`.
 pub fn shape(have: usize, want: u64) -> u64
-    ensures { result ≡ unless (eqb have want) SHAPE }
+    ensures { result ≡ unless (eqb have want) SHAPE_NUMBER }
 {
     if have as u64 == want { OK } else { SHAPE }
 }
