@@ -35,6 +35,7 @@ fn encode_refusal(d: u64, l: u64, scalars: &[u64], start: &[u8], bits: &[u8]) ->
 }
 
 // Writes the start order and the bits of the plan of d scalars of l bits with the house order as end order, and answers its row.
+#[tactic(auto, using(crate::proofs::Kept::kept_refused))]
 pub fn encode(d: u64, l: u64, scalars: &[u64], start: &mut [u8], bits: &mut [u8]) -> Encoded
     ensures { EncodePromise d l scalars.now start.old bits.old result start.new bits.new }
 {

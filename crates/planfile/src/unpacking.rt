@@ -37,6 +37,7 @@ pub fn unpack(file: &[u8]) -> Unpacked
 
 // The body of a plan file, start order and then bits: a part of the caller's own bytes. Where unpack refuses, the empty part at their
 // start.
+#[tactic(auto, using(ladder::proofs::Tests::refusing_yes))]
 pub fn body(file: &[u8]) -> &[u8]
     ensures { BodyPromise file.now file.entry.ref_ptr result.now result.ref_ptr }
 {

@@ -15,6 +15,7 @@ fn hex_digit(words: &[u64], i: usize) -> u64
 }
 
 // How many digits there are up to the highest that is not 0; for 0 one.
+#[tactic(auto, using(crate::proofs::HexDigits::above_found))]
 fn hex_length(words: &[u64]) -> usize
     requires { (1 ≤ length words.now) × (length words.now ≤ 10) }
     ensures { result ≡ length (hexadecimal (number_of words.now)) }

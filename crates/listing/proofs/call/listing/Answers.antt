@@ -3,6 +3,7 @@
 -- Assumes nothing.
 use Prim.Native.Nat.{◌≤◌}
 use mathlib.Core.Path.{◌≡◌, sym, ap, ap₂, ◌∙◌}
+use native.Mathlib.Omega.{arith}
 use lib.Dec.{eqb, leb}
 use lib.ListN.{length}
 use lib.Seq.{length-take-le}
@@ -27,7 +28,7 @@ returns-then-refusal-ne-OK c = answered_refused _ _ c.unpack-u.ensures (judged (
 -- The start order lies within the body.
 room : (c : After-body-part) → c.unpack-u.result.d ≤ length c.body-part.result.now
 room c = body_room _ c.args.text.now c.unpack-u.ensures (let both = c.first-early.ensures ∙ ap₂ ◌then◌ c.big-long.ensures c.shape-room.ensures in
-    c.first-refusal.ensures ∙ ap (λ n. n then c.unpack-u.result.refusal) both) c.if-refusal-ne-OK.false c.body-part.ensures
+    c.first-refusal.ensures ∙ ap (λ n. n then c.unpack-u.result.refusal) both) (omega arith) c.body-part.ensures
 
 pub slice_bounds-put_plan-end : goal.slice_bounds-put_plan-end
 slice_bounds-put_plan-end c = sym (length-take-le _ _ (room c))
@@ -40,10 +41,10 @@ slice_bounds-put_plan-start c = room c
 
 pub put_plan-length-requires : goal.put_plan-length-requires
 put_plan-length-requires c =
-    body_listable _ _ c.unpack-u.ensures (judged (goal.at.put_plan-length-requires c).After-first-refusal) c.if-refusal-ne-OK.false c.body-part.ensures
+    body_listable _ _ c.unpack-u.ensures (judged (goal.at.put_plan-length-requires c).After-first-refusal) (omega arith) c.body-part.ensures
 
 pub returns : goal.returns
 returns c =
     let unpacked = c.unpack-u.ensures in
-    let none = c.if-refusal-ne-OK.false in
+    let none : c.first-refusal.result ≡ 0 = omega arith in
     answered _ _ unpacked (judged (goal.at.returns c).After-first-refusal) none (ap plan_text (lent_plan _ c.args.text.now unpacked (judged (goal.at.returns c).After-first-refusal) none c.body-part.ensures)) c.put_plan-length.ensures

@@ -16,7 +16,7 @@ pub loop-i-preserved : goal.loop-i-preserved
 loop-i-preserved c = (
   omega arith,
   all_goes (λ e. ltb e c.args.m) c.args.s.now c.loop-i.i (omega arith)
-      (lt-ltb (get_or c.args.s.now c.loop-i.i 0) c.args.m (omega (arith, c.if-m-s.false))) c.loop-i.invariant.1,
+      (lt-ltb (get_or c.args.s.now c.loop-i.i 0) c.args.m (omega arith)) c.loop-i.invariant.1,
 )
 
 pub returns : goal.returns

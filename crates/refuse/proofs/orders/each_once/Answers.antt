@@ -16,7 +16,7 @@ pub loop-v-preserved : goal.loop-v-preserved
 loop-v-preserved c = (
   omega arith,
   once_goes c.loop-v.v c.args.d c.args.s.now (omega arith)
-      (ap (λ n. eqb n 1) (sym c.count.ensures) ∙ eq-eqb _ 1 c.if-count-ne1.false) c.loop-v.invariant.1,
+      (ap (λ n. eqb n 1) (sym c.count.ensures) ∙ eq-eqb _ 1 (omega arith)) c.loop-v.invariant.1,
 )
 
 pub returns : goal.returns

@@ -40,7 +40,7 @@ loop-i-preserved c =
       long ∙ c.loop-i.invariant.1,
       words_set c.loop-i.words c.loop-i.i _ (omega arith) (omega (arith, c.wrapping_add_u64-next.ensures.value)) c.loop-i.invariant.2,
       carry_on c.loop-i.words c.loop-i.i c.wrapping_add_u64-next.result n (omega arith) c.loop-i.invariant.2
-          c.wrapping_add_u64-next.ensures.value c.if-next-ne0.false c.loop-i.invariant.3,
+          c.wrapping_add_u64-next.ensures.value (omega arith) c.loop-i.invariant.3,
     )
 
 pub returns : goal.returns
