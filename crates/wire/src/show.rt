@@ -1,5 +1,9 @@
 // How a line is made: numbers in decimal, bytes and words in lower-case hexadecimal. A line is put together in a buffer, from a place on,
 // and written in one piece.
+ghost use Rattle.std.specs.Prelude.{◌≤◌, ℕ, OnOk, OnErr, length, take};
+ghost use Rattle.std.specs.Io.KnownBytes.{Appends};
+ghost use Rattle.wire.specs.Moved.{Gains};
+
 use crate::{digits, part};
 use lent::wide;
 use std::io::{self, Write};
@@ -54,10 +58,28 @@ pub fn refusal(line: &mut [u8], at: usize, n: u64) -> usize {
     number(line, at, b": refusal ", n)
 }
 
-// Writes the line.
-pub fn end<W: Write>(output: &mut W, line: &mut [u8], at: usize) -> io::Result<()> {
+// Writes all bytes. After an error the first of them are written, and no others.
+fn write_full<W: Write>(output: &mut W, bytes: &[u8]) -> io::Result<()>
+    ensures whole { OnOk result (Appends (W.contents output.old) (W.contents output.new) bytes.now) }
+    ensures failed { OnErr result ((n : ℕ) × ((n ≤ length bytes.now) × Appends (W.contents output.old) (W.contents output.new) (take n bytes.now))) }
+{
+    let mut done: usize = 0;
+    while done < bytes.len() {
+        let n = output.write(&bytes[done..])?;
+        if n == 0 {
+            return Err(io::ErrorKind::WriteZero.into());
+        }
+        done += n;
+    }
+    Ok(())
+}
+
+// Writes the line, or its first part where an error comes.
+pub fn end<W: Write>(output: &mut W, line: &mut [u8], at: usize) -> io::Result<()>
+    ensures { Gains (W.contents output.old) (W.contents output.new) }
+{
     let length = character(line, at, b'\n');
-    output.write_all(part::bytes(line, length as u64))
+    write_full(output, part::bytes(line, length as u64))
 }
 
 // 2^40 + 2^21 + 2^7 + 1 times as much.

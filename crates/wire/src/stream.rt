@@ -1,8 +1,9 @@
 // An input, of which a part is held. From one number to the next is less than half of that part: where half of it has no number the
 // input is taken to end, and the place is the text's end from then on.
-ghost use Rattle.std.specs.Prelude.{◌≤◌, ◌<◌, IfOk, length, take};
+ghost use Rattle.std.specs.Prelude.{◌≤◌, ◌<◌, ℕ, IfOk, OnErr, length, take};
 ghost use Rattle.std.specs.Io.{ReadsAtMost};
 ghost use Rattle.std.specs.Io.KnownBytes.{Consumes, IsAtEnd};
+ghost use Rattle.wire.specs.Moved.{Loses};
 
 use crate::numbers;
 use std::io::{self, Read};
@@ -36,11 +37,13 @@ fn clear(text: &mut [u8], from: usize) {
     }
 }
 
-// Reads until the room is full or the input ends; answers how many bytes that is.
+// Reads until the room is full or the input ends; answers how many bytes that is. After an error the bytes that were read before it stand in
+// the room from its start on.
 pub fn read_full<R: Read>(input: &mut R, room: &mut [u8]) -> io::Result<usize>
     ensures fits { ReadsAtMost result room.new }
     ensures bytes { IfOk result (λ n. Consumes (R.remaining input.old) (R.remaining input.new) (take n room.new)) }
     ensures whole { IfOk result (λ n. n < length room.new → IsAtEnd (R.remaining input.new)) }
+    ensures failed { OnErr result ((n : ℕ) × ((n ≤ length room.new) × Consumes (R.remaining input.old) (R.remaining input.new) (take n room.new))) }
 {
     let mut done: usize = 0;
     while done < room.len() {
@@ -54,7 +57,9 @@ pub fn read_full<R: Read>(input: &mut R, room: &mut [u8]) -> io::Result<usize>
 }
 
 // Once half of the text is read, the rest moves to the front and more is read behind it. Answers where reading goes on.
-pub fn refill<R: Read>(input: &mut R, text: &mut [u8], at: usize) -> io::Result<usize> {
+pub fn refill<R: Read>(input: &mut R, text: &mut [u8], at: usize) -> io::Result<usize>
+    ensures { Loses (R.remaining input.old) (R.remaining input.new) }
+{
     if at < text.len() / 2 {
         return Ok(at);
     }
@@ -71,7 +76,9 @@ pub fn bytes<R: Read>(
     text: &mut [u8],
     from: usize,
     out: &mut [u8],
-) -> io::Result<usize> {
+) -> io::Result<usize>
+    ensures { Loses (R.remaining input.old) (R.remaining input.new) }
+{
     let mut at = from;
     let mut i: usize = 0;
     while i < out.len() {
@@ -88,7 +95,9 @@ pub fn bytes<R: Read>(
 }
 
 // Passes over so many numbers, or to the end.
-pub fn pass<R: Read>(input: &mut R, text: &mut [u8], at: usize, count: u64) -> io::Result<usize> {
+pub fn pass<R: Read>(input: &mut R, text: &mut [u8], at: usize, count: u64) -> io::Result<usize>
+    ensures { Loses (R.remaining input.old) (R.remaining input.new) }
+{
     let mut from = at;
     let mut i = 0u64;
     while i < count {
