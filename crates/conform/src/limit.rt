@@ -1,5 +1,7 @@
 // The most that a request can lend, which is somewhat more than the calls accept, but unpack and body, which take a file of any length. A
 // request that lends more is refused by a line that says so, and what it lends is passed over.
+ghost use Rattle.wire.specs.Moved.{Gains, Loses};
+
 use crate::request::Lent;
 use std::io::{self, Read, Write};
 use wire::{show, stream};
@@ -20,7 +22,9 @@ pub fn passed(call: u64, lent: Lent) -> bool {
     lent.start > 64 || lent.bits > 65536 || lent.words > 128 || lent.out > output(call)
 }
 
-fn write<W: Write>(output: &mut W, lent: Lent) -> io::Result<()> {
+fn write<W: Write>(output: &mut W, lent: Lent) -> io::Result<()>
+    ensures { Gains (W.contents output.old) (W.contents output.new) }
+{
     let mut line = [0u8; 256];
     let start = show::number(
         &mut line,
@@ -41,7 +45,10 @@ pub fn refuse<R: Read, W: Write>(
     text: &mut [u8],
     at: usize,
     lent: Lent,
-) -> io::Result<usize> {
+) -> io::Result<usize>
+    ensures read { Loses (R.remaining input.old) (R.remaining input.new) }
+    ensures written { Gains (W.contents output.old) (W.contents output.new) }
+{
     write(output, lent)?;
     let start = stream::pass(input, text, at, lent.start)?;
     let bits = stream::pass(input, text, start, lent.bits)?;

@@ -2,6 +2,8 @@
 // bits and words hold. A step has its number for l, its order for start and its signs for bits. A run has its modulus before the words,
 // which are its elements, and its registers for output. A file is the bits of a request that takes one. Output is lent filled with 170 in
 // every byte or word.
+ghost use Rattle.wire.specs.Moved.{Gains, Loses};
+
 use crate::{LARGE, calls, files, limit, runs, step};
 use std::io::{self, Read, Write};
 use wire::{numbers, part, show, stream};
@@ -59,7 +61,9 @@ fn read_bytes<R: Read>(
     at: usize,
     start: &mut [u8],
     bits: &mut [u8],
-) -> io::Result<usize> {
+) -> io::Result<usize>
+    ensures { Loses (R.remaining input.old) (R.remaining input.new) }
+{
     let after_start = stream::bytes(input, text, at, start)?;
     let after_bits = stream::bytes(input, text, after_start, bits)?;
     if after_bits == text.len() {
@@ -76,7 +80,10 @@ fn answer_held<R: Read, W: Write>(
     at: usize,
     head: [u64; 8],
     lent: Lent,
-) -> io::Result<usize> {
+) -> io::Result<usize>
+    ensures read { Loses (R.remaining input.old) (R.remaining input.new) }
+    ensures written { Gains (W.contents output.old) (W.contents output.new) }
+{
     let mut held_start = [0u8; 64];
     let start = part::bytes_out(&mut held_start, lent.start);
     let mut held_bits = [0u8; LARGE];
@@ -114,7 +121,10 @@ pub fn answer<R: Read, W: Write>(
     output: &mut W,
     text: &mut [u8],
     at: usize,
-) -> io::Result<usize> {
+) -> io::Result<usize>
+    ensures read { Loses (R.remaining input.old) (R.remaining input.new) }
+    ensures written { Gains (W.contents output.old) (W.contents output.new) }
+{
     let mut head = [0u64; 8];
     let next = numbers::words(text, at, &mut head);
     if next == text.len() {
@@ -134,7 +144,9 @@ pub fn answer<R: Read, W: Write>(
 }
 
 // The line of a request in which the input ends.
-pub fn cut<W: Write>(output: &mut W) -> io::Result<()> {
+pub fn cut<W: Write>(output: &mut W) -> io::Result<()>
+    ensures { Gains (W.contents output.old) (W.contents output.new) }
+{
     let mut line = [0u8; 64];
     let length = show::text(&mut line, 0, b"the input ends within a request");
     show::end(output, &mut line, length)
