@@ -118,3 +118,6 @@ pub filling_reads : {d : ℕ} {old : List ℕ} {n : ℕ} {new : List ℕ} {x k :
 filling_reads f h zero e = (omega arith, omega arith, omega (arith, filling_room f h))
 filling_reads f h (suc zero) e = (omega (arith, filling_room f h), omega arith, omega (arith, filling_room f h))
 filling_reads f h (suc (suc b)) e = absurd (omega (arith, filling_room f h))
+
+-- What a loop that fills the order asks of these laws.
+pub ruleset filling = (filling_room, filling_start, filling_end)

@@ -43,6 +43,9 @@ module _ (d n : ℕ) where
   pub ones_room : (k : ℕ) → k ≤ d → ones (drop k (bits_of d n)) + k ≤ d
   ones_room k h = omega (arith, ones_le (drop k (bits_of d n)), length-drop k (bits_of d n), length-bits_of d n)
 
+  pub ones_inside : ones (bits_of d n) ≤ d
+  ones_inside = omega (arith, ones_room 0 (omega arith))
+
 -- 1 moved up by d places is a power of 2, of which a word cuts nothing off.
 pub power : (d : ℕ) → d ≤ 8 → 1 * 2 ^ d % 2 ^ 64 ≡ 2 ^ d
 power d h = shl_exact 1 d 64 (omega arith) (omega arith) ∙ one-mul _

@@ -9,11 +9,12 @@ use lib.IntN.{ℤ, pos}
 use lib.ListN.{length, get_or, take, set, replicate, length-append, length-set, length-replicate, get_or-replicate, get_or-append, get_or-eq_default}
 use lib.Seq.{length-take-le, get_or-take, get_or-append-add, get_or-set_same, get_or-set_other, ext_get_or}
 use Rattle.ladder.proofs.Tests.{order_at}
-use Rattle.ladder.specs.Matrix.{turn}
+use Rattle.ladder.specs.Matrix.{turn, IsUnit, Units}
 use Rattle.ladder.specs.Walk.{bits_of}
 use Rattle.ladder.proofs.Order.{place_of, place_once}
 use Rattle.ladder.proofs.Signs.{turned, turn_at, length-turn}
 use Rattle.bits.specs.Ready.{Columns}
+use Rattle.bits.proofs.SmallSigns.{unit_fits}
 use Rattle.ladder.proofs.Walk.{length-bits_of}
 
 -- The column at place k, counted from 0.
@@ -27,6 +28,11 @@ column_at {d} {order} a k h =
     let at = order_at (take d order) (record { columns = a.columns; counted = a.counted }) k h in
     let same = get_or-take d order k 0 h in
     (omega (arith, at), omega (arith, at), at.2)
+
+-- Its sign is 1 or -1.
+pub unit_at : {d : ℕ} {order : List ℕ} → Columns d order → (signs : List ℤ) → Units d signs → (k : ℕ) → k < d
+    → IsUnit (get_or signs (get_or order k 0 - 1) (pos 0))
+unit_at a signs u k h = u _ (omega (arith, column_at a k h))
 
 -- After k places: the columns at them have their signs, and past d all is 0.
 pub record Turning (d : ℕ) (signs : List ℤ) (order : List ℕ) (n : ℕ) (new : List ℤ) (k : ℕ) : Type 0 where
@@ -115,3 +121,6 @@ module _ {d : ℕ} {order : List ℕ} (small : d ≤ 8) (a : Columns d order) (s
           zeros : (c : ℕ) → Dec (c < 8 - d) → get_or (replicate (8 - d) (pos 0)) c (pos 0) ≡ pos 0
           zeros c (yes b) = get_or-replicate (8 - d) c (pos 0) (pos 0) b
           zeros c (no b) = get_or-eq_default (replicate (8 - d) (pos 0)) (pos 0) {n = c} (omega (arith, length-replicate (8 - d) (pos 0)))
+
+-- What a loop that turns signs asks of these laws.
+pub ruleset turning = (column_at, unit_fits, turning_start, turning_end)

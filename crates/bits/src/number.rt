@@ -12,9 +12,10 @@ pub fn bit(d: usize, r: u64, k: usize) -> u64
 }
 
 // How many of the d bits in r are 1.
+#[tactic(auto, using(crate::proofs::StepBits::power, crate::proofs::StepBits::ones_of_bits))]
 pub fn ones_in(d: usize, r: u64) -> usize
     requires { d ≤ 8 }
     ensures { result ≡ ones (bits_of d r) }
 {
-    u64::count_ones(r % (1 << d)) as usize
+    (r % (1 << d)).count_ones() as usize
 }

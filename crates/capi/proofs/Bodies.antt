@@ -12,8 +12,8 @@ use Rattle.planfile.specs.declared.unpacking.Unpacked.{Unpacked}
 use Rattle.planfile.specs.Promise.{UnpackPromise, BodyPromise}
 use Rattle.planfile.proofs.Promised.{unpack_accepts, body_accepted}
 
-module _ {file : List ℕ} {u : Unpacked} {place : ℕ × ℕ} {part : List ℕ} {partPlace : ℕ × ℕ}
-    (unpacked : UnpackPromise file u) (body : BodyPromise file place part partPlace) (none : u.refusal ≡ 0) where
+module _ {file : List ℕ} {refusal : ℕ} {u : Unpacked} {place : ℕ × ℕ} {part : List ℕ} {partPlace : ℕ × ℕ}
+    (unpacked : UnpackPromise file refusal u) (body : BodyPromise file place part partPlace) (none : refusal ≡ 0) where
   ok : UnpackOk file
   ok = (unpack_accepts unpacked).0 none
 

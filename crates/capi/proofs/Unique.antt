@@ -8,17 +8,15 @@ use mathlib.Core.List.{List}
 use lib.IntN.{ℤ}
 use Rattle.ladder.specs.Plan.{Plan}
 use Rattle.ladder.proofs.Tests.{refusing-same}
-use Rattle.encode.specs.declared.call.Encoded.{Encoded}
 use Rattle.encode.specs.Promise.{EncodePromise}
 use Rattle.encode.proofs.Unique as encoding
 use Rattle.decode.specs.Promise.{DecodePromise}
 use Rattle.decode.proofs.Unique as decoding
-use Rattle.checking.specs.declared.call.Checked.{Checked}
 use Rattle.checking.proofs.Unique as checking
-use Rattle.walk.specs.declared.step.Stepped.{Stepped}
+use Rattle.walk.specs.declared.state.Walk.{Walk}
 use Rattle.walk.specs.Promise.{StepPromise}
 use Rattle.walk.proofs.Unique as walking
-use Rattle.trace.specs.declared.call.Traced.{Traced}
+use Rattle.trace.specs.declared.steps.Traced.{Traced}
 use Rattle.trace.specs.Promise.{TracePromise}
 use Rattle.trace.proofs.Unique as tracing
 use Rattle.run.specs.declared.answer.Ran.{Ran}
@@ -27,20 +25,17 @@ use Rattle.run.proofs.Unique as running
 use Rattle.planfile.specs.declared.unpacking.Unpacked.{Unpacked}
 use Rattle.planfile.specs.Promise.{PackPromise, UnpackPromise}
 use Rattle.planfile.proofs.Unique as filing
-use Rattle.listing.specs.declared.call.Listed.{Listed}
 use Rattle.listing.specs.Promise.{ListingPromise}
 use Rattle.listing.proofs.Unique as listing
-use Rattle.capi.specs.Answers.{encoded, walk, stepped, traced, ran, unpacked, listed}
+use Rattle.capi.specs.Answers.{walk, traced, ran, unpacked}
 use Rattle.capi.specs.Promise.{CheckNumberPromise, BodyPlacePromise}
 
 -- Encode.
 pub encode_unique : {d l : ℕ} {scalars start bits : List ℕ} {r s row rowOther : ℕ} {startAfter startOther bitsAfter bitsOther : List ℕ}
-    → EncodePromise d l scalars start bits (encoded r row) startAfter bitsAfter
-    → EncodePromise d l scalars start bits (encoded s rowOther) startOther bitsOther
+    → EncodePromise d l scalars start bits r row startAfter bitsAfter
+    → EncodePromise d l scalars start bits s rowOther startOther bitsOther
     → (r ≡ s) × (row ≡ rowOther) × (startAfter ≡ startOther) × (bitsAfter ≡ bitsOther)
-encode_unique x y =
-    let u = encoding.encode_unique x y in
-    (ap (λ (e : Encoded). e.refusal) u.0, ap (λ (e : Encoded). e.row) u.0, u.1, u.2)
+encode_unique x y = encoding.encode_unique x y
 
 -- Decode.
 pub decode_unique : {p : Plan} {values : List ℕ} {r s : ℕ} {valuesAfter valuesOther : List ℕ}
@@ -52,57 +47,57 @@ pub check_unique : {p : Plan} {scalars : List ℕ} {r s said saidOther : ℕ}
     → CheckNumberPromise p scalars r said → CheckNumberPromise p scalars s saidOther → (r ≡ s) × (said ≡ saidOther)
 check_unique x y =
     let u = checking.check_unique x.said_is y.said_is in
-    (ap (λ (a : Checked). a.refusal) u, x.yes_is ∙ ap (λ (a : Checked). cond a.yes 1 0) u ∙ sym y.yes_is)
+    (u.0, x.yes_is ∙ ap (λ said. cond said 1 0) u.1 ∙ sym y.yes_is)
 
 -- Step.
 pub step_unique : {d bits : ℕ} {order : List ℕ} {signs : List ℤ} {r s : ℕ} {order_after orderOther : List ℕ} {signs_after signsOther : List ℤ}
-    → StepPromise (walk d order signs) bits (stepped r (walk d order_after signs_after))
-    → StepPromise (walk d order signs) bits (stepped s (walk d orderOther signsOther))
+    → StepPromise (walk d order signs) bits r (walk d order_after signs_after)
+    → StepPromise (walk d order signs) bits s (walk d orderOther signsOther)
     → (r ≡ s) × (order_after ≡ orderOther) × (signs_after ≡ signsOther)
 step_unique x y =
     let u = walking.step_unique x y in
-    (ap (λ (a : Stepped). a.refusal) u, ap (λ (a : Stepped). a.walk.order) u, ap (λ (a : Stepped). a.walk.signs) u)
+    (u.0, ap (λ (w : Walk). w.order) u.1, ap (λ (w : Walk). w.signs) u.1)
 
 -- Trace.
 pub trace_unique : {p : Plan} {out : List ℕ} {r s doublings doublingsOther additions additionsOther : ℕ} {outAfter outOther : List ℕ}
-    → TracePromise p out (traced r doublings additions) outAfter → TracePromise p out (traced s doublingsOther additionsOther) outOther
+    → TracePromise p out r (traced doublings additions) outAfter → TracePromise p out s (traced doublingsOther additionsOther) outOther
     → (r ≡ s) × (doublings ≡ doublingsOther) × (additions ≡ additionsOther) × (outAfter ≡ outOther)
 trace_unique x y =
     let u = tracing.trace_unique x y in (
-      ap (λ (a : Traced). a.refusal) u.0,
-      ap (λ (a : Traced). a.doublings) u.0,
-      ap (λ (a : Traced). a.additions) u.0,
-      u.1,
+      u.0,
+      ap (λ (a : Traced). a.doublings) u.1,
+      ap (λ (a : Traced). a.additions) u.1,
+      u.2,
     )
 
 -- A run that leaves the registers wanted ..
-pub run_unique : {p : Plan} {refusal : ℕ} {registers wanted : List ℕ}
+pub run_unique : {p : Plan} {number : ℕ} {registers wanted : List ℕ}
     {r s answer answerOther doublings doublingsOther additions additionsOther : ℕ} {registers_after registersOther : List ℕ}
-    → RunPromise p refusal registers wanted (ran r answer doublings additions) registers_after
-    → RunPromise p refusal registers wanted (ran s answerOther doublingsOther additionsOther) registersOther
+    → RunPromise p number registers wanted r (ran answer doublings additions) registers_after
+    → RunPromise p number registers wanted s (ran answerOther doublingsOther additionsOther) registersOther
     → (r ≡ s) × (answer ≡ answerOther) × (doublings ≡ doublingsOther) × (additions ≡ additionsOther) × (registers_after ≡ registersOther)
 run_unique x y =
     let u = running.run_unique x y in (
-      ap (λ (a : Ran). a.refusal) u.0,
-      ap (λ (a : Ran). a.answer) u.0,
-      ap (λ (a : Ran). a.doublings) u.0,
-      ap (λ (a : Ran). a.additions) u.0,
-      u.1,
+      u.0,
+      ap (λ (a : Ran). a.answer) u.1,
+      ap (λ (a : Ran). a.doublings) u.1,
+      ap (λ (a : Ran). a.additions) u.1,
+      u.2,
     )
 
 -- .. the plain run ..
 pub plain_unique : (m : ℕ) (elements : List ℕ) {p : Plan} {registers : List ℕ}
     {r s answer answerOther doublings doublingsOther additions additionsOther : ℕ} {registers_after registersOther : List ℕ}
-    → PlainPromise p m elements registers (ran r answer doublings additions) registers_after
-    → PlainPromise p m elements registers (ran s answerOther doublingsOther additionsOther) registersOther
+    → PlainPromise p m elements registers r (ran answer doublings additions) registers_after
+    → PlainPromise p m elements registers s (ran answerOther doublingsOther additionsOther) registersOther
     → (r ≡ s) × (answer ≡ answerOther) × (doublings ≡ doublingsOther) × (additions ≡ additionsOther) × (registers_after ≡ registersOther)
 plain_unique m elements x y = run_unique x y
 
 -- .. and the difference run.
 pub difference_unique : (m : ℕ) (elements : List ℕ) {p : Plan} {registers : List ℕ}
     {r s answer answerOther doublings doublingsOther additions additionsOther : ℕ} {registers_after registersOther : List ℕ}
-    → DifferencePromise p m elements registers (ran r answer doublings additions) registers_after
-    → DifferencePromise p m elements registers (ran s answerOther doublingsOther additionsOther) registersOther
+    → DifferencePromise p m elements registers r (ran answer doublings additions) registers_after
+    → DifferencePromise p m elements registers s (ran answerOther doublingsOther additionsOther) registersOther
     → (r ≡ s) × (answer ≡ answerOther) × (doublings ≡ doublingsOther) × (additions ≡ additionsOther) × (registers_after ≡ registersOther)
 difference_unique m elements x y = run_unique x y
 
@@ -113,14 +108,14 @@ pack_unique x y = filing.pack_unique x y
 
 -- Unpack.
 pub unpack_unique : {file : List ℕ} {r s d dOther l lOther row rowOther : ℕ}
-    → UnpackPromise file (unpacked r d l row) → UnpackPromise file (unpacked s dOther lOther rowOther)
+    → UnpackPromise file r (unpacked d l row) → UnpackPromise file s (unpacked dOther lOther rowOther)
     → (r ≡ s) × (d ≡ dOther) × (l ≡ lOther) × (row ≡ rowOther)
 unpack_unique x y =
     let u = filing.unpack_unique x y in (
-      ap (λ (a : Unpacked). a.refusal) u,
-      ap (λ (a : Unpacked). a.d) u,
-      ap (λ (a : Unpacked). a.l) u,
-      ap (λ (a : Unpacked). a.row) u,
+      u.0,
+      ap (λ (a : Unpacked). a.d) u.1,
+      ap (λ (a : Unpacked). a.l) u.1,
+      ap (λ (a : Unpacked). a.row) u.1,
     )
 
 -- Body.
@@ -133,8 +128,6 @@ body_unique x y =
 
 -- Listing.
 pub listing_unique : {file text : List ℕ} {r s size sizeOther : ℕ} {textAfter textOther : List ℕ}
-    → ListingPromise file text (listed r size) textAfter → ListingPromise file text (listed s sizeOther) textOther
+    → ListingPromise file text r size textAfter → ListingPromise file text s sizeOther textOther
     → (r ≡ s) × (size ≡ sizeOther) × (textAfter ≡ textOther)
-listing_unique x y =
-    let u = listing.listing_unique x y in
-    (ap (λ (a : Listed). a.refusal) u.0, ap (λ (a : Listed). a.length) u.0, u.1)
+listing_unique x y = listing.listing_unique x y

@@ -5,13 +5,12 @@ use Rattle.ladder.specs.Plan.{Plan}
 use Rattle.ladder.specs.PlanFile.{body_place, body_in}
 use Rattle.ladder.specs.Refusals.{refusing, unpack_refusal}
 use Rattle.checking.specs.Promise.{CheckPromise}
-use Rattle.capi.specs.Answers.{checked}
 
 -- Check, as the library promises it, with 1 for its yes and 0 for its no. With d 1, l 1, start order 1, bits 80, row 2 and the scalar 1:
 -- refusal 0 and 1.
 pub record CheckNumberPromise (p : Plan) (scalars : List ℕ) (refusal yes : ℕ) : Type 0 where
   pub said : Bool
-  pub said_is : CheckPromise p scalars (checked refusal said)
+  pub said_is : CheckPromise p scalars refusal said
   pub yes_is : yes ≡ cond said 1 0
 
 -- The body's place, of any bytes: unpack's refusal, where the body begins, counted from 0, and how many bytes it has; on refusal zeros. Of

@@ -1,6 +1,7 @@
 // Encode.
 ghost use Rattle.encode.specs.Promise.{EncodePromise};
-ghost use Rattle.capi.specs.Answers.{encoded};
+
+use refusal::parts;
 
 // Writes the start order and the bits of the plan of d scalars of l bits, and its row.
 #[unsafe(no_mangle)]
@@ -12,9 +13,9 @@ pub extern "C" fn immarduzh_encode(
     bits: &mut [u8],
     row: &mut u64,
 ) -> u64
-    ensures { EncodePromise d l scalars.now start.old bits.old (encoded result row.new) start.new bits.new }
+    ensures { EncodePromise d l scalars.now start.old bits.old result row.new start.new bits.new }
 {
-    let r = plan::encode(d, l, scalars, start, bits);
-    *row = r.row;
-    r.refusal
+    let (refusal, reached) = parts(plan::encode(d, l, scalars, start, bits), 0);
+    *row = reached;
+    refusal
 }

@@ -3,6 +3,9 @@ ghost use Rattle.ladder.specs.Plan.{plan_lent};
 ghost use Rattle.decode.specs.Promise.{DecodePromise};
 ghost use Rattle.capi.specs.Promise.{CheckNumberPromise};
 
+use plan::Plan;
+use refusal::parts;
+
 // Writes the values of the answer row of the plan's last matrix.
 #[unsafe(no_mangle)]
 pub extern "C" fn immarduzh_decode(
@@ -15,7 +18,14 @@ pub extern "C" fn immarduzh_decode(
 ) -> u64
     ensures { DecodePromise (plan_lent d l start.now bits.now row) values.old result values.new }
 {
-    plan::decode(d, l, start, bits, row, values)
+    let plan = Plan {
+        d,
+        l,
+        start,
+        bits,
+        row,
+    };
+    parts(plan::decode(&plan, values), ()).0
 }
 
 // Says by 1 or 0 whether the answer row of the plan's last matrix is the scalars.
@@ -31,7 +41,14 @@ pub extern "C" fn immarduzh_check(
 ) -> u64
     ensures { CheckNumberPromise (plan_lent d l start.now bits.now row) scalars.now result yes.new }
 {
-    let r = plan::check(d, l, start, bits, row, scalars);
-    *yes = r.yes as u64;
-    r.refusal
+    let plan = Plan {
+        d,
+        l,
+        start,
+        bits,
+        row,
+    };
+    let (refusal, said) = parts(plan::check(&plan, scalars), false);
+    *yes = said as u64;
+    refusal
 }

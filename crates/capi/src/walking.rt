@@ -2,27 +2,28 @@
 ghost use Rattle.ladder.specs.Plan.{plan_lent};
 ghost use Rattle.walk.specs.Promise.{StepPromise};
 ghost use Rattle.trace.specs.Promise.{TracePromise};
-ghost use Rattle.capi.specs.Answers.{walk, stepped, traced};
+ghost use Rattle.capi.specs.Answers.{walk, traced};
 
-use plan::Walk;
+use plan::{Plan, Traced, Walk};
+use refusal::parts;
 
 // One step of a paused walk, whose order and signs are stepped in place.
 #[unsafe(no_mangle)]
 pub extern "C" fn immarduzh_step(d: u64, order: &mut [u8; 8], signs: &mut [i8; 8], bits: u64) -> u64
-    ensures { StepPromise (walk d order.old signs.old) bits (stepped result (walk d order.new signs.new)) }
+    ensures { StepPromise (walk d order.old signs.old) bits result (walk d order.new signs.new) }
 {
     let w = Walk {
         d,
         order: *order,
         signs: *signs,
     };
-    let r = w.step(bits);
-    let next = r.walk;
+    let (refusal, next) = parts(w.step(bits), w);
+    // by variables: an array that is part of another value may not be stored straight (not covered)
     let places = next.order;
     let turned = next.signs;
     *order = places;
     *signs = turned;
-    r.refusal
+    refusal
 }
 
 // Writes the trace of a plan, and the counts of its doublings and additions.
@@ -37,10 +38,21 @@ pub extern "C" fn immarduzh_trace(
     doublings: &mut u64,
     additions: &mut u64,
 ) -> u64
-    ensures { TracePromise (plan_lent d l start.now bits.now row) out.old (traced result doublings.new additions.new) out.new }
+    ensures { TracePromise (plan_lent d l start.now bits.now row) out.old result (traced doublings.new additions.new) out.new }
 {
-    let r = plan::trace(d, l, start, bits, row, out);
+    let plan = Plan {
+        d,
+        l,
+        start,
+        bits,
+        row,
+    };
+    let none = Traced {
+        doublings: 0,
+        additions: 0,
+    };
+    let (refusal, r) = parts(plan::trace(&plan, out), none);
     *doublings = r.doublings;
     *additions = r.additions;
-    r.refusal
+    refusal
 }

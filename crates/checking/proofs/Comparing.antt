@@ -1,65 +1,68 @@
--- The row that the walk yields, compared with the scalars: what that asks, and what it says.
+-- A plan and scalars that check does not refuse: what comparing the answer row with the scalars asks, and what it says.
 -- Assumes nothing.
-use Prim.Native.Nat.{ℕ, zero, ◌-◌, ◌*◌, ◌≤◌}
+use Prim.Native.Nat.{ℕ, ◌*◌, ◌<◌, ◌≤◌}
 use mathlib.Core.Path.{◌≡◌, sym, ap, ap₂, ◌∙◌}
 use mathlib.Core.List.{List}
 use native.Mathlib.Nat.{mul-le-mul}
 use native.Mathlib.Omega.{arith}
-use lib.ListN.{length, replicate, length-replicate}
-use Rattle.ladder.specs.Numbers.{numbers_of, words_of_all, scalar_words, scalars_length, value_words, values_length}
-use Rattle.ladder.specs.Plan.{Plan, answer_row}
-use Rattle.ladder.specs.Refusals.{scalars_in, same_numbers}
-use Rattle.ladder.specs.Walk.{Walk}
-use Rattle.ladder.proofs.Operations.{PlanOk}
+use lib.ListN.{length}
+use Rattle.ladder.specs.Numbers.{numbers_of, scalar_words, scalars_length, value_words, values_length}
+use Rattle.ladder.specs.Plan.{Plan, answer_row, values_in}
+use Rattle.ladder.specs.Refusals.{shape, loose_refusal, decode_refusal, check_refusal, scalars_in, same_numbers}
 use Rattle.ladder.proofs.Demand2.{decode_words}
+use Rattle.ladder.proofs.Operations.{CheckOk, check_none, decode_none, loose_none}
+use Rattle.ladder.proofs.Refusals.{shape_none}
 use Rattle.scalars.specs.Inner.{Shaped}
-use Rattle.values.specs.Inner.{walked_row}
-use Rattle.judge.proofs.Starting.{start_of}
-use Rattle.values.proofs.Decoded.{begun_d, at_start, row_decoded}
-use Rattle.checking.specs.Inner.{Checkable, row_same}
+use Rattle.checking.proofs.Left.{Left}
 
--- Values that hold the row, k words each, hold the scalars, n words each, exactly where the row does.
-pub same_row : (w : Walk) (l : ℕ) (bytes : List ℕ) (row : ℕ) (scalars values : List ℕ) (k n : ℕ) → k ≡ value_words l → n ≡ scalar_words l
-    → values ≡ words_of_all (value_words l) (walked_row w l bytes row)
-    → same_numbers (numbers_of w.d k values) (numbers_of w.d n scalars) ≡ row_same w l bytes row scalars
-unfolding row_same
-same_row w l bytes row scalars values k n words own held = rw (words, own, held)
+-- An entry has a word, and as many as a scalar.
+pub words_some : (l : ℕ) → (0 < value_words l) × (scalar_words l ≤ value_words l)
+unfolding value_words scalar_words
+words_some l = (omega arith, omega arith)
 
--- Eight values of ten words are enough.
-pub scratch_room : {w : Walk} {l : ℕ} {bytes : List ℕ} {row : ℕ} {scalars : List ℕ} → Checkable w l bytes row scalars → w.d * value_words l ≤ 80
-unfolding value_words
-scratch_room {w} {l} p =
-    let a = p.begun (replicate (w.d * value_words l) 0) (length-replicate (w.d * value_words l) zero) in
-    let k : value_words l ≤ 10 = omega (arith, a.l_high) in
-    mul-le-mul a.ready.high k
+module _ (p : Plan) (scalars : List ℕ) where
+  -- Where the plan is not refused, nor the scalars' length, the scalars can be judged.
+  pub shaped : loose_refusal p (shape scalars (scalars_length p.d p.l)) ≡ 0 → Shaped p.d p.l scalars
+  unfolding scalars_length
+  shaped judged =
+      let ok = (loose_none p (shape_none scalars (scalars_length p.d p.l))).0 judged in
+      let a = ok.0.plan in
+      record { range = record { d_low = a.d_low; d_high = a.d_high; l_low = a.l_low; l_high = a.l_high }; long = ok.1 }
 
--- ---- a plan that is not refused
+  module _ (judged : check_refusal p scalars ≡ 0) where
+    asked : CheckOk p scalars
+    asked = (check_none p scalars).0 judged
 
-module _ (p : Plan) (ok : PlanOk p) (scalars : List ℕ) where
-  module _ (long : length scalars ≡ scalars_length p.d p.l) where
-    -- Scalars of their length can be judged ..
-    pub shaped : Shaped p.d p.l scalars
-    unfolding scalars_length
-    shaped =
-        let a = ok.plan in
-        record { range = record { d_low = a.d_low; d_high = a.d_high; l_low = a.l_low; l_high = a.l_high }; long = long }
+    pub steps_high : p.l ≤ 576
+    steps_high = asked.plan.plan.l_high
 
-    -- .. and compared with the row ..
-    pub checkable : {w : Walk} → w ≡ start_of p → Checkable w p.l p.bits (p.answer - 1) scalars
-    unfolding scalars_length values_length
-    checkable begun =
-        let same = begun_d p begun in
-        record {
-          inside = omega (arith, same, ok.plan.answer_high);
-          begun = λ values h. at_start p begun ok values (h ∙ ap (λ n. n * value_words p.l) same);
-          long = long ∙ ap (λ n. n * scalar_words p.l) (sym same);
-        }
+    -- A scalar has a word.
+    pub scalar_some : 0 < scalar_words p.l
+    unfolding scalar_words
+    scalar_some = omega (arith, asked.plan.plan.l_low)
 
-  -- .. which says whether the answer row is the scalars.
-  pub row_says : {w : Walk} → w ≡ start_of p
-      → row_same w p.l p.bits (p.answer - 1) scalars ≡ same_numbers (answer_row p) (scalars_in p.d p.l scalars)
-  unfolding row_same scalars_in
-  row_says begun =
-      ap₂ (λ n v. same_numbers (numbers_of n (value_words p.l) v) (numbers_of n (scalar_words p.l) scalars))
-      (begun_d p begun) (row_decoded p begun ok.plan)
-      ∙ ap (λ v. same_numbers v (numbers_of p.d (scalar_words p.l) scalars)) (decode_words p ok.plan)
+    -- Eight values of ten words are enough.
+    pub scratch_room : p.d * value_words p.l ≤ 80
+    unfolding value_words
+    scratch_room =
+        let k : value_words p.l ≤ 10 = omega (arith, steps_high) in
+        mul-le-mul asked.plan.plan.d_high k
+
+    module _ (values : List ℕ) (long : length values ≡ p.d * value_words p.l) where
+      -- Words for d values can be decoded into ..
+      pub decodable : decode_refusal p values ≡ 0
+      unfolding values_length
+      decodable = (decode_none p values).1 (record { plan = asked.plan; values_long = long })
+
+      -- .. and then all entries and scalars are left, and decide.
+      pub left_starts : values ≡ values_in p → {entries_left scalars_left : List ℕ} → entries_left ≡ values → scalars_left ≡ scalars
+          → Left (same_numbers (answer_row p) (scalars_in p.d p.l scalars)) (value_words p.l) (scalar_words p.l) entries_left scalars_left
+      unfolding scalars_in scalars_length
+      left_starts decoded e f = record {
+        count = p.d;
+        values_long = ap length e ∙ long;
+        scalars_long = ap length f ∙ asked.scalars_long;
+        decides =
+            ap₂ (λ v s. same_numbers v (numbers_of p.d (scalar_words p.l) s))
+            (sym (ap (numbers_of p.d (value_words p.l)) (e ∙ decoded) ∙ decode_words p asked.plan.plan)) (sym f);
+      }

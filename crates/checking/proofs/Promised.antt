@@ -3,7 +3,7 @@
 use Prim.Native.Nat.{ℕ, ◌^◌, ◌<◌}
 use mathlib.Core.Path.{◌≡◌, sym, ap, subst, ◌∙◌}
 use mathlib.Core.Logic.{◌≢◌, ◌↔◌}
-use mathlib.Core.Bool.{true, false}
+use mathlib.Core.Bool.{Bool, true, false}
 use mathlib.Core.List.{List}
 use native.Mathlib.Omega.{arith}
 use lib.ListN.{get_or}
@@ -13,18 +13,17 @@ use Rattle.ladder.proofs.Tests.{says_true, refusing_no, refusing_yes}
 use Rattle.ladder.proofs.FileRefusals.{same_numbers_says}
 use Rattle.ladder.proofs.Operations.{CheckOk, check_none}
 use Rattle.checking.specs.Promise.{CheckPromise}
-use Rattle.checking.specs.declared.call.Checked.{Checked}
 use Rattle.checking.proofs.Equality.{lists_same}
 
 -- ---- refused or not
 
-module _ {p : Plan} {scalars : List ℕ} {r : Checked} (promise : CheckPromise p scalars r) where
+module _ {p : Plan} {scalars : List ℕ} {refusal : ℕ} {yes : Bool} (promise : CheckPromise p scalars refusal yes) where
   -- Check's refusal is 0 exactly where the plan, the scalars and the buffers are what it asks ..
-  pub check_accepts : r.refusal ≡ 0 ↔ CheckOk p scalars
+  pub check_accepts : refusal ≡ 0 ↔ CheckOk p scalars
   check_accepts = subst (λ n. n ≡ 0 ↔ CheckOk p scalars) (sym promise.refusal_is) (check_none p scalars)
 
   -- .. then the refusal is 0 and it says yes exactly where the answer row is the scalars ..
-  pub check_accepted : CheckOk p scalars → (r.refusal ≡ 0) × (r.yes ≡ true ↔ answer_row p ≡ scalars_in p.d p.l scalars)
+  pub check_accepted : CheckOk p scalars → (refusal ≡ 0) × (yes ≡ true ↔ answer_row p ≡ scalars_in p.d p.l scalars)
   check_accepted ok =
       let none = check_accepts.1 ok in
       let said = promise.yes_is ∙ refusing_no _ _ _ none in
@@ -34,11 +33,11 @@ module _ {p : Plan} {scalars : List ℕ} {r : Checked} (promise : CheckPromise p
       )
 
   -- .. an entry of 2^l equals none ..
-  pub check_full : CheckOk p scalars → (j : ℕ) → j < p.d → get_or (answer_row p) j 0 ≡ 2 ^ p.l → r.yes ≡ true → ⊥
+  pub check_full : CheckOk p scalars → (j : ℕ) → j < p.d → get_or (answer_row p) j 0 ≡ 2 ^ p.l → yes ≡ true → ⊥
   check_full ok j h full said =
       let same = (check_accepted ok).1.0 said in
       omega (arith, ok.fit j h, ap (λ ns. get_or ns j 0) same)
 
   -- .. and on refusal it says no.
-  pub check_refused : r.refusal ≢ 0 → r.yes ≡ false
+  pub check_refused : refusal ≢ 0 → yes ≡ false
   check_refused some = promise.yes_is ∙ refusing_yes _ _ _ some

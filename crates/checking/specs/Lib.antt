@@ -1,3 +1,2 @@
--- `Promise` is what check promises. `Inner` holds what only inner contracts need: no promise rests on it.
+-- What check promises.
 pub mod Promise
-pub mod Inner

@@ -5,4 +5,4 @@ mod call;
 mod row;
 mod same;
 
-pub use call::{Checked, check};
+pub use call::check;

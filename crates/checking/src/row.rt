@@ -1,38 +1,31 @@
-// Whether a row of a plan's last matrix is the scalars.
-ghost use Rattle.std.specs.Prelude.{◌*◌, ◌≡◌, length};
-ghost use Rattle.ladder.specs.Numbers.{value_words};
-ghost use Rattle.walk.specs.WalkState.{walk_state};
-ghost use Rattle.checking.specs.Inner.{Checkable, row_same};
+// Whether the answer row of a plan's last matrix is the scalars.
+ghost use Rattle.std.specs.Prelude.{◌≡◌};
+ghost use Rattle.ladder.specs.Plan.{answer_row};
+ghost use Rattle.ladder.specs.Refusals.{check_refusal, same_numbers, scalars_in};
+ghost use Rattle.loose.specs.PlanOf.{plan_of};
 
-use crate::same::same_values;
+use crate::same::same_value;
+use loose::Plan;
 use scalars::scalar_words;
-use values::{answer_values, value_words};
-use walk::Walk;
+use values::{decode_values, value_words};
 
-// Whether a row (from 0) of the last matrix of the plan that starts with this walk state is the scalars; its words are left in `values`.
-fn row_is_in(
-    start: Walk,
-    bits: &[u8],
-    l: usize,
-    row: usize,
-    scalars: &[u64],
-    values: &mut [u64],
-) -> bool
-    requires { Checkable (walk_state start) l bits.now row scalars.now × (length values.old ≡ start.d * value_words l) }
-    ensures { result ≡ row_same (walk_state start) l bits.now row scalars.now }
+// Whether the answer row is the scalars. The plan and the scalars were judged as check judges them. Eight values of ten words are the most
+// there can be.
+pub fn row_is(plan: &Plan, scalars: &[u64]) -> bool
+    requires { check_refusal (plan_of plan.now) scalars.now ≡ 0 }
+    ensures { result ≡ same_numbers (answer_row (plan_of plan.now)) (scalars_in plan.now.d plan.now.l scalars.now) }
 {
-    let d = start.d as usize;
-    answer_values(start, bits, l, row, values);
-    same_values(d, value_words(l), scalar_words(l), values, scalars)
-}
-
-// The same, with words of its own. Eight values of ten words are the most there can be.
-pub fn row_is(start: Walk, bits: &[u8], l: usize, row: usize, scalars: &[u64]) -> bool
-    requires { Checkable (walk_state start) l bits.now row scalars.now }
-    ensures { result ≡ row_same (walk_state start) l bits.now row scalars.now }
-{
-    let d = start.d as usize;
-    let n = d * value_words(l);
-    let mut values = [0u64; 80];
-    row_is_in(start, bits, l, row, scalars, &mut values[..n])
+    let l = plan.l as usize;
+    let k = value_words(l);
+    let n = plan.d as usize * k;
+    let mut words = [0u64; 80];
+    let values = &mut words[..n];
+    decode_values(plan, values);
+    let entries = values.chunks_exact(k);
+    for (entry, scalar) in entries.zip(scalars.chunks_exact(scalar_words(l))) {
+        if !same_value(entry, scalar) {
+            return false;
+        }
+    }
+    true
 }

@@ -1,43 +1,65 @@
 // One line per call on plan files.
-use crate::calls::plan_of;
-use crate::request::Head;
-use plan::Listed;
-use wire::{part, show};
+use crate::Answer;
+use crate::lent_plan::Shown;
+use plan::{Plan, Refusal, Unpacked};
+use refusal::parts;
+use std::fmt::{self, Write};
+use wire::part::{first, first_mut};
+use wire::show::{Barred, Bytes};
 
-pub fn pack(h: Head, start: &[u8], bits: &[u8], line: &mut [u8]) -> usize {
-    let asked = plan_of(h, b"pack ", start, bits, line);
+fn packed(answer: Result<(), Refusal>, file: &[u8], line: &mut Answer) -> fmt::Result {
+    let (refusal, ()) = parts(answer, ());
+    write!(line, ": refusal {refusal} file{}", Bytes(file))
+}
+
+pub fn pack(plan: &Plan, size: u64, line: &mut Answer) -> fmt::Result {
+    write!(line, "pack {}", Shown(plan))?;
     let mut lent = [170u8; 640];
-    let file = part::bytes_out(&mut lent, h.out);
-    let refused = show::refusal(line, asked, plan::pack(h.d, h.l, start, bits, h.row, file));
-    show::bytes(line, refused, b" file", file)
+    let file = first_mut(&mut lent, size);
+    let answer = plan::pack(plan, file);
+    packed(answer, file, line)
 }
 
-pub fn unpack(file: &[u8], line: &mut [u8]) -> usize {
-    let asked = show::bytes(line, 0, b"unpack", file);
-    let r = plan::unpack(file);
-    let refused = show::refusal(line, asked, r.refusal);
-    let dimension = show::number(line, refused, b" d ", r.d);
-    let length = show::number(line, dimension, b" l ", r.l);
-    show::number(line, length, b" row ", r.row)
+fn unpacked(answer: Result<Unpacked, Refusal>, line: &mut Answer) -> fmt::Result {
+    let none = Unpacked { d: 0, l: 0, row: 0 };
+    let (refusal, said) = parts(answer, none);
+    write!(
+        line,
+        ": refusal {refusal} d {} l {} row {}",
+        said.d, said.l, said.row
+    )
 }
 
-pub fn body(file: &[u8], line: &mut [u8]) -> usize {
-    let asked = show::bytes(line, 0, b"body", file);
-    show::bytes(line, asked, b": bytes", plan::body(file))
+pub fn unpack(file: &[u8], line: &mut Answer) -> fmt::Result {
+    write!(line, "unpack{}", Bytes(file))?;
+    unpacked(plan::unpack(file), line)
+}
+
+pub fn body(file: &[u8], line: &mut Answer) -> fmt::Result {
+    write!(
+        line,
+        "body{}: bytes{}",
+        Bytes(file),
+        Bytes(plan::body(file))
+    )
 }
 
 // The whole buffer, and its text.
-fn listed(r: Listed, text: &[u8], line: &mut [u8], at: usize) -> usize {
-    let refused = show::refusal(line, at, r.refusal);
-    let length = show::number(line, refused, b" length ", r.length as u64);
-    let whole = show::bytes(line, length, b" buffer", text);
-    show::lines(line, whole, b" text ", part::bytes(text, r.length as u64))
+fn listed(answer: Result<usize, Refusal>, buffer: &[u8], line: &mut Answer) -> fmt::Result {
+    let (refusal, length) = parts(answer, 0);
+    let text = first(buffer, length as u64);
+    write!(
+        line,
+        ": refusal {refusal} length {length} buffer{} text {}",
+        Bytes(buffer),
+        Barred(text)
+    )
 }
 
-pub fn listing(h: Head, file: &[u8], line: &mut [u8]) -> usize {
-    let asked = show::bytes(line, 0, b"listing", file);
+pub fn listing(file: &[u8], size: u64, line: &mut Answer) -> fmt::Result {
+    write!(line, "listing{}", Bytes(file))?;
     let mut lent = [170u8; 8600];
-    let text = part::bytes_out(&mut lent, h.out);
-    let r = plan::listing(file, text);
-    listed(r, text, line, asked)
+    let buffer = first_mut(&mut lent, size);
+    let answer = plan::listing(file, buffer);
+    listed(answer, buffer, line)
 }

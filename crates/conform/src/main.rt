@@ -3,35 +3,39 @@
 // (../../../model), never what this program wrote.
 #![tactic(auto)]
 
+mod call;
 mod calls;
 mod files;
+mod lent_plan;
 mod limit;
 mod request;
 mod runs;
 mod step;
+mod stop;
 
 use std::io;
-use wire::{numbers, stream};
+use stop::Stop;
+use wire::line::Line;
+use wire::stream::Input;
 
-// How much is held of the input, of a file and of an answer.
+// How much is held of a file and of an answer.
 const LARGE: usize = 65536;
 
+// The line of an answer.
+type Answer = Line<LARGE>;
+
 fn main(rt: HostRuntime) -> io::Result<()> {
-    let mut input = rt.stdin();
+    let mut input = Input::new(rt.stdin());
     let mut output = rt.stdout();
-    let mut text = [0u8; LARGE];
-    stream::read_full(&mut input, &mut text)?;
-    let first = numbers::next(&text, 0);
-    let count = first.value;
-    let mut at = first.next;
-    let mut i = 0u64;
-    while i < count {
-        let from = stream::refill(&mut input, &mut text, at)?;
-        at = request::answer(&mut input, &mut output, &mut text, from)?;
-        if at == text.len() {
-            return request::cut(&mut output);
+    input.refill()?;
+    let count = input.held_number().unwrap_or(0);
+    for _ in 0..count {
+        input.refill()?;
+        match request::answer(&mut input, &mut output) {
+            Ok(()) => {}
+            Err(Stop::Cut) => return request::cut(&mut output),
+            Err(Stop::Failed(e)) => return Err(e),
         }
-        i += 1;
     }
     Ok(())
 }

@@ -1,55 +1,44 @@
 // One line per step of a paused walk, whose order and signs a request has for start and bits.
-use crate::request::Head;
-use bits::signed_byte;
-use lent::byte;
-use plan::Walk;
-use wire::show;
+use crate::Answer;
+use plan::{Refusal, Walk};
+use refusal::parts;
+use std::array;
+use std::fmt::{self, Display, Formatter, Write};
+use wire::show::Bytes;
 
-// A byte as a sign, two's complement.
-fn sign(b: u8) -> i8 {
-    if b < 128 {
-        return b as i8;
+// Eight bytes of what is lent, 0 where it has fewer.
+fn eight(lent: &[u8]) -> [u8; 8] {
+    array::from_fn(|i| lent.get(i).copied().unwrap_or(0))
+}
+
+#[derive(Clone, Copy)]
+struct State(Walk);
+
+impl Display for State {
+    fn fmt<W: fmt::Write>(&self, f: &mut Formatter<W>) -> fmt::Result {
+        let State(Walk { d, order, signs }) = self;
+        write!(
+            f,
+            "{d} order{} signs{}",
+            Bytes(order),
+            Bytes(&signs.map(i8::cast_unsigned))
+        )
     }
-    (b as i16 - 256) as i8
 }
 
-fn walk(d: u64, from: &[u8], given: &[u8]) -> Walk {
-    let mut order = [0u8; 8];
-    let mut signs = [0i8; 8];
-    let mut i: usize = 0;
-    while i < 8 {
-        order[i] = byte(from, i);
-        signs[i] = sign(byte(given, i));
-        i += 1;
-    }
-    Walk { d, order, signs }
+// What a step of a walk answered: on refusal the walk stands as it was.
+fn stepped(walk: Walk, answer: Result<Walk, Refusal>, line: &mut Answer) -> fmt::Result {
+    let (refusal, next) = parts(answer, walk);
+    write!(line, ": refusal {refusal} walk {}", State(next))
 }
 
-fn bytes(signs: [i8; 8]) -> [u8; 8] {
-    let mut out = [0u8; 8];
-    let mut i: usize = 0;
-    while i < 8 {
-        out[i] = signed_byte(signs[i]);
-        i += 1;
-    }
-    out
-}
-
-fn state(w: Walk, label: &[u8], line: &mut [u8], at: usize) -> usize {
-    let order = w.order;
-    let signs = w.signs;
-    let d = show::number(line, at, label, w.d);
-    let placed = show::bytes(line, d, b" order", &order);
-    let turned = bytes(signs);
-    show::bytes(line, placed, b" signs", &turned)
-}
-
-pub fn step(h: Head, order: &[u8], signs: &[u8], line: &mut [u8]) -> usize {
-    let w = walk(h.d, order, signs);
-    let given = state(w, b"step ", line, 0);
-    let asked = show::number(line, given, b" by ", h.l);
-    let r = w.step(h.l);
-    let next = r.walk;
-    let refused = show::refusal(line, asked, r.refusal);
-    state(next, b" walk ", line, refused)
+pub fn step(d: u64, order: &[u8], signs: &[u8], bits: u64, line: &mut Answer) -> fmt::Result {
+    let signs = eight(signs).map(u8::cast_signed);
+    let walk = Walk {
+        d,
+        order: eight(order),
+        signs,
+    };
+    write!(line, "step {} by {bits}", State(walk))?;
+    stepped(walk, walk.step(bits), line)
 }

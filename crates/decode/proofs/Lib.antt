@@ -1,3 +1,4 @@
 -- What follows from decode's promise.
 pub mod Unique
 pub mod Promised
+pub mod Kept

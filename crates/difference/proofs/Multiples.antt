@@ -1,31 +1,11 @@
--- An element times -1, 0 or 1 by a modulus: the negative is a wrapped difference.
+-- An element times -1, 0 or 1 by a modulus.
 -- Assumes nothing.
-use Rattle.std.proofs.Common.{◌≡◌, ℕ, zero, suc, ◌+◌, ◌-◌, ◌%◌, ◌^◌, ◌<◌, true, false, T, ◌≢◌, ℤ, pos, negsuc, sym, refl, ap, ◌∙◌, subst, ⊎_elim, one-mul, zero-mul, arith}
-use native.Mathlib.Nat.{mod_self, zero-mod}
+use Rattle.std.proofs.Common.{◌≡◌, ℕ, ◌-◌, ◌%◌, ◌<◌, true, false, T, ℤ, pos, negsuc, sym, ap, ◌∙◌, subst, ⊎_elim, one-mul, zero-mul}
+use native.Mathlib.Nat.{zero-mod}
 use lib.Signed.{lt_z}
 use Rattle.ladder.specs.Matrix.{IsSmall}
 use Rattle.ladder.specs.Registers.{modulus, times_signed}
-use Rattle.registers.proofs.ByModulus.{modulus_zero, modulus_some, element_kept}
-
--- ---- negatives
-
-pub negative_zero : (m e : ℕ) → e ≡ 0 → 0 ≡ (modulus m - e) % modulus m
-negative_zero m e z =
-    let all : modulus m - e ≡ modulus m = omega arith in
-    sym (ap (λ n. n % modulus m) all ∙ mod_self (modulus m))
-
--- The wrapped difference from m, which is 0 for 2^64.
-pub negative_some : (m e r : ℕ) → m < 2 ^ 64 → e ≢ 0 → e < modulus m → r < 2 ^ 64 → (r + e) % 2 ^ 64 ≡ m → r ≡ (modulus m - e) % modulus m
-negative_some zero e r f n l s w =
-    let M = modulus_zero zero refl in
-    let is : r ≡ modulus zero - e = omega arith in
-    is ∙ sym (element_kept zero (modulus zero - e) (omega arith))
-negative_some (suc m) e r f n l s w =
-    let M = modulus_some (suc m) (λ z. omega arith) in
-    let is : r ≡ modulus (suc m) - e = omega arith in
-    is ∙ sym (element_kept (suc m) (modulus (suc m) - e) (omega arith))
-
--- ---- an element times -1, 0 or 1
+use Rattle.registers.proofs.ByModulus.{element_kept}
 
 module _ (m e : ℕ) (s : ℤ) where
   pub times_none : s ≡ pos 0 → 0 ≡ times_signed m s e % modulus m

@@ -1,6 +1,6 @@
 -- The new registers of a step as a loop of the difference run makes them: behind those that are made, those of the additions that are left.
 -- Assumes nothing.
-use Rattle.std.proofs.Common.{◌≡◌, ℕ, suc, pred, ◌+◌, ◌-◌, ◌%◌, ◌^◌, ◌<◌, ◌≤◌, List, [], ◌∷◌, ◌++◌, map, length, get_or, take, drop, set, replicate, ℤ, pos, sym, refl, ap, ◌∙◌, ap₂, inl, inr, append_assoc, append-nil, add-one, arith, length-set, length-take-le, get_or-set_other, get_or-take, get_or-set_same, take-suc-set}
+use Rattle.std.proofs.Common.{◌≡◌, ℕ, suc, pred, ◌+◌, ◌-◌, ◌%◌, ◌<◌, ◌≤◌, List, [], ◌∷◌, ◌++◌, map, length, get_or, take, drop, set, replicate, ℤ, pos, sym, refl, ap, ◌∙◌, ap₂, inl, inr, append_assoc, append-nil, add-one, arith, length-set, length-take-le, get_or-set_other, get_or-take, get_or-set_same, take-suc-set}
 use native.Mathlib.Decide.{ℕ_discrete}
 use lib.ListN.{get_or-replicate}
 use Rattle.ladder.specs.Lists.{ones}
@@ -11,7 +11,7 @@ use Rattle.ladder.specs.Walk.{bits_of}
 use Rattle.bits.specs.Ready.{Columns}
 use Rattle.bits.specs.WalkBlock.{walk_block}
 use Rattle.bits.proofs.Additions.{entry_at, rest, more, rest_next, rest_none, block_rest}
-use Rattle.bits.proofs.StepBits.{ones_left, ones_room}
+use Rattle.bits.proofs.StepBits.{ones_left, ones_room, ones_inside}
 use Rattle.bits.proofs.Turning.{column_at}
 use Rattle.registers.specs.Inner.{Elements}
 use Rattle.difference.specs.Inner.{DifferenceAdd, difference_of}
@@ -20,7 +20,6 @@ use Rattle.difference.proofs.Differences.{doubled_zeros}
 -- What the additions rest on: the signs before the step, the order after it, and registers and elements that are elements.
 pub record Additions (m d : ℕ) (signs : List ℤ) (order elements old : List ℕ) : Type 0 where
   pub d_high : d ≤ 8
-  pub m_high : m ≤ 2 ^ 63
   pub units : Units d signs
   pub columns : Columns d order
   pub long : length elements ≡ d
@@ -47,10 +46,8 @@ module _ {m d : ℕ} {signs : List ℤ} {order elements old : List ℕ} (asks : 
   register_at x y v h = refl
 
   -- The row that is doubled is a row, and its register an element.
-  pub doubled_room : (x : ℕ) → x ≡ ones (bits_of d n) → (x ≤ d) × (get_or old x 0 < modulus m)
-  doubled_room x e =
-      let h : x ≤ d = omega (arith, ones_room d n 0 (omega arith)) in
-      (h, asks.registers x (omega arith))
+  pub doubled_below : (x : ℕ) → x ≡ ones (bits_of d n) → get_or old x 0 < modulus m
+  doubled_below x e = asks.registers x (omega (arith, ones_inside d n))
 
   pub making_start : (x : ℕ) → x ≡ ones (bits_of d n) → (v : List ℤ) → v ≡ replicate 8 (pos 0) → (a : ℕ)
       → a ≡ (get_or old x 0 + get_or old x 0) % modulus m → (new : List ℕ) → length new ≡ 9 → take 1 new ≡ a ∷ []
@@ -73,7 +70,7 @@ module _ {m d : ℕ} {signs : List ℤ} {order elements old : List ℕ} (asks : 
       same : a ≡ register (entry_at d (ones (bits_of d n)) (ones (bits_of d n)) (replicate 8 (pos 0)))
       same =
           f ∙ ap (λ y. (get_or old y 0 + get_or old y 0) % modulus m) e
-          ∙ sym (register_at h h (replicate 8 (pos 0)) (doubled_room h refl).0
+          ∙ sym (register_at h h (replicate 8 (pos 0)) (ones_inside d n)
           ∙ doubled_zeros m elements (get_or old h 0) d 8 asks.d_high)
 
   module _ {new : List ℕ} {v : List ℤ} {x k : ℕ} (s : Making m d signs order n elements old new v x k) (h : k < d)
@@ -102,7 +99,6 @@ module _ {m d : ℕ} {signs : List ℤ} {order elements old : List ℕ} (asks : 
     pub addition_asks : (v' : List ℤ) → v' ≡ more d signs asks.columns n v k → DifferenceAdd (get_or old x' 0) (take d v') elements m
     addition_asks v' q = record {
       few = omega (arith, asks.long, asks.d_high);
-      m_high = asks.m_high;
       register = asks.registers x' (omega (arith, making_room));
       below = λ i l. asks.below i (omega (arith, asks.long));
       wide =

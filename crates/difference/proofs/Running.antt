@@ -68,7 +68,6 @@ module _ {m : ℕ} {w₀ : Walk} {l : ℕ} {bytes elements start : List ℕ} (as
     pub step_asks : DifferenceStep m w elements (take (d + 1) regs)
     step_asks = rw (add-one d) record {
       ready = t.ready;
-      m_high = asks.m_high;
       long = asks.long ∙ sym width;
       below = subst (λ i. Elements m i elements) (sym width) asks.below;
       rows = length-take-le (suc d) regs (omega (arith, asks.ready.high, t.nine)) ∙ ap suc (sym width);

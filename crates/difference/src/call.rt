@@ -1,28 +1,33 @@
-// The public call `difference_run`.
-ghost use Rattle.ladder.specs.Plan.{plan_lent};
-ghost use Rattle.run.specs.Promise.{DifferencePromise};
+// The public call `difference_run`. It and `plain_run` stay two: each is a call with a promise of its own, and what they share is `run_by_steps`.
+ghost use Rattle.loose.specs.PlanOf.{plan_of};
+ghost use Rattle.refusal.specs.Answers.{refusal_of, answer_or};
+ghost use Rattle.run.specs.Promise.{DifferencePromise, no_run};
 
-use crate::accepted::difference_accepted;
-use refuse::OK;
-use registers::{refused, run_refusal};
+use crate::steps::difference_steps;
+use loose::Plan;
+use refusal::Refusal;
+use registers::run_by_steps;
 use run::Ran;
 
-// The difference run of a plan: leaves the registers that its own rule defines, with no use of register y in an addition.
+// The difference run of a plan: leaves the registers that its own rule defines, with no use of register y in an addition. Where it refuses
+// (1, 2, 3, 5, 6, 7, 8), the registers are as they came.
 pub fn difference_run(
-    d: u64,
-    l: u64,
-    start: &[u8],
-    bits: &[u8],
-    row: u64,
+    plan: &Plan,
     m: u64,
     elements: &[u64],
     registers: &mut [u64],
-) -> Ran
-    ensures { DifferencePromise (plan_lent d l start.now bits.now row) m elements.now registers.old result registers.new }
+) -> Result<Ran, Refusal>
+    ensures { DifferencePromise (plan_of plan.now) m elements.now registers.old (refusal_of result) (answer_or no_run result) registers.new }
 {
-    let refusal = run_refusal(d, l, start, bits, row, m, elements, registers);
-    if refusal != OK {
-        return refused(refusal);
-    }
-    difference_accepted(d, l, start, bits, row, m, elements, registers)
+    // The parts by themselves, since a closure that captures the plan ensures nothing.
+    let Plan {
+        d,
+        l,
+        start,
+        bits,
+        ..
+    } = *plan;
+    run_by_steps(plan, m, elements, registers, |m, first| {
+        difference_steps(m, d, l as usize, start, bits, elements, first)
+    })
 }

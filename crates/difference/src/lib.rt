@@ -2,7 +2,6 @@
 // `difference_run`; the rest is an inside of it.
 #![tactic(auto)]
 
-mod accepted;
 mod addition;
 mod call;
 mod steps;

@@ -2,17 +2,19 @@
 ghost use Rattle.std.specs.Prelude.{◌≡◌, suc, pred, map, take};
 ghost use Rattle.ladder.specs.Numbers.{bits_at};
 ghost use Rattle.ladder.specs.Registers.{difference_rule, registers_after};
-ghost use Rattle.ladder.specs.Walk.{bits_of, order_of, step_walk};
+ghost use Rattle.ladder.specs.Walk.{bits_of, step_walk};
 ghost use Rattle.bits.specs.WalkBlock.{walk_block};
 ghost use Rattle.walk.specs.WalkState.{walk_state};
-ghost use Rattle.difference.specs.Inner.{DifferenceStep, DifferenceSteps, difference_of};
+ghost use Rattle.difference.specs.Inner.{DifferenceStep, FromStart, difference_of};
 
 use crate::addition::difference_add;
 use bits::{bit, ones_in, step_bits};
-use registers::add;
+use judge::start_walk;
+use registers::{Modulus, Registers};
 use walk::Walk;
 
-// What the run has after a step.
+// What the run has after a step. By hand: the step is no method of it, since its contract speaks of the d + 1 registers that there are, and not
+// of nine words.
 #[derive(Clone, Copy)]
 pub struct Held {
     pub walk: Walk,
@@ -21,7 +23,8 @@ pub struct Held {
 
 // One step with the bits r. Each addition fills in one sign more, as it is before the step: that of the column at the next place of the new
 // order. Of the old registers it reads that of row x alone.
-pub fn difference_step(m: u64, w: Walk, r: u64, elements: &[u64], old: &[u64]) -> Held
+#[tactic(auto, using(bits::proofs::StepBits::ones_inside, crate::proofs::Stepping::doubled), unfolding(walk::specs::WalkState::walk_state))]
+pub fn difference_step(m: Modulus, w: Walk, r: u64, elements: &[u64], old: &[u64]) -> Held
     requires { DifferenceStep m (walk_state w) elements.now old.now }
     ensures { (walk_state result.walk ≡ step_walk (walk_state w) r) × (take (suc w.d) result.regs ≡ map (difference_of m elements.now old.now) (walk_block w.d (take w.d w.signs) (map pred (take w.d result.walk.order)) (bits_of w.d r))) }
 {
@@ -33,9 +36,8 @@ pub fn difference_step(m: u64, w: Walk, r: u64, elements: &[u64], old: &[u64]) -
     let mut signs = [0i8; 8];
     let mut new = [0u64; 9];
     let mut x = ones_in(d, r);
-    new[0] = add(m, old[x], old[x]);
-    let mut k: usize = 0;
-    while k < d {
+    new[0] = m.add(old[x], old[x]);
+    for k in 0..d {
         let b = bit(d, r, k) as usize;
         x -= b;
         let c = places[x + k * (1 - b)];
@@ -43,13 +45,8 @@ pub fn difference_step(m: u64, w: Walk, r: u64, elements: &[u64], old: &[u64]) -
         let j = c as usize - 1;
         let s = before[j];
         vector[j] = s;
-        if b == 1 {
-            signs[j] = -s;
-        } else {
-            signs[j] = s;
-        }
-        k += 1;
-        new[k] = difference_add(old[x], &vector[..d], elements, m);
+        signs[j] = if b == 1 { -s } else { s };
+        new[k + 1] = difference_add(old[x], &vector[..d], elements, m);
     }
     let walk = Walk {
         d: w.d,
@@ -59,28 +56,28 @@ pub fn difference_step(m: u64, w: Walk, r: u64, elements: &[u64], old: &[u64]) -
     Held { walk, regs: new }
 }
 
-// All l steps, from the walk's start and the start registers.
+// All l steps, from the start of the walk with this start order, and the start registers.
+#[tactic(auto, unfolding(walk::specs::WalkState::walk_state))]
 pub fn difference_steps(
-    m: u64,
-    w: Walk,
+    m: Modulus,
+    d: u64,
     l: usize,
+    start: &[u8],
     bits: &[u8],
     elements: &[u64],
-    start: [u64; 9],
-) -> [u64; 9]
-    requires { DifferenceSteps m (walk_state w) l bits.now elements.now start }
-    ensures { take (suc w.d) result ≡ registers_after (difference_rule m elements.now) w.d (order_of (walk_state w)) (bits_at w.d bits.now) (take (suc w.d) start) l }
+    first: Registers,
+) -> Registers
+    requires { FromStart m d l start.now bits.now elements.now first.words }
+    ensures { take (suc d) result.words ≡ registers_after (difference_rule m elements.now) d (map pred start.now) (bits_at d bits.now) (take (suc d) first.words) l }
 {
-    let d = w.d as usize;
-    let mut walk = w;
-    let mut regs = start;
-    let mut s: usize = 0;
-    while s < l {
+    let mut walk = start_walk(d, start);
+    let d = walk.d as usize;
+    let mut words = first.words;
+    for s in 0..l {
         let r = step_bits(bits, d, s);
-        let held = difference_step(m, walk, r, elements, &regs[..d + 1]);
+        let held = difference_step(m, walk, r, elements, &words[..d + 1]);
         walk = held.walk;
-        regs = held.regs;
-        s += 1;
+        words = held.regs;
     }
-    regs
+    Registers { words }
 }

@@ -19,23 +19,22 @@ use Rattle.ladder.proofs.Lists.{length-joined}
 use Rattle.ladder.proofs.Bits.{joined_below}
 use Rattle.ladder.proofs.Encoding.{order_to_go_lem, length-encoded_bits, encoded_bits_below}
 use Rattle.scalars.specs.Inner.{Fitting, gathered}
-use Rattle.encode.specs.declared.packing.Packing.{Packing}
+use Rattle.encode.specs.declared.packing.Packer.{Packer}
 use Rattle.encode.specs.Inner.Order.{ColumnsIn, dealt_by}
-use Rattle.encode.specs.Inner.Packing.{bits_in, Open, Room, Put}
+use Rattle.encode.specs.Inner.Packing.{bits_in, Open, Put}
 use Rattle.encode.proofs.Dealt.{dealt-gathered, arranged_columns}
 use Rattle.encode.proofs.Written.{packed}
 
 -- The bits of m steps, the last ones, are written or held, and the filling zeros after them. `ks` are the scalars, E is the end order.
-pub record Behind (d l : ℕ) (ks E : List ℕ) (m : ℕ) (bytes order : List ℕ) (p : Packing) (below : ℕ) : Type 0 where
+pub record Behind (d l : ℕ) (ks E : List ℕ) (m : ℕ) (order : List ℕ) (p : Packer) (below : ℕ) : Type 0 where
   pub upto : m ≤ l
   pub arranged : take d order ≡ order_to_go l ks E m
   pub bits : below ≡ gathered ks m
   pub left : 8 * p.at ≡ (l - m) * d + p.held
-  pub state : Open p bytes
-  pub long : length bytes ≡ bits_length d l
-  pub small : (i : ℕ) → get_or bytes i 0 < 256
+  pub state : Open p
+  pub long : length p.bytes.now ≡ bits_length d l
   pub filling : ℕ
-  pub written : joined (l - m) (encoded_bits l ks E) ++ bits_in p bytes ≡ joined l (encoded_bits l ks E) ++ replicate filling 0
+  pub written : joined (l - m) (encoded_bits l ks E) ++ bits_in p ≡ joined l (encoded_bits l ks E) ++ replicate filling 0
 
 -- ---- at the start
 
@@ -57,22 +56,26 @@ module _ (d l : ℕ) (bytes : List ℕ) (long : length bytes ≡ bits_length d l
   pub few_filling : length bytes * 8 - l * d < 8
   few_filling = unfold bits_length bytes_for in omega arith
 
-  pub nothing_behind : (ks order : List ℕ) (below : ℕ) → ((i : ℕ) → get_or bytes i 0 < 256) → below ≡ gathered ks 0
-      → Behind d l ks (take d order) 0 bytes order (record { at = length bytes; held = length bytes * 8 - l * d; fill = 0 }) below
+  pub nothing_behind : (p : Packer) → p.bytes.now ≡ bytes → p.at ≡ length bytes → p.held ≡ length bytes * 8 - l * d → p.fill ≡ 0
+      → (ks order : List ℕ) (below : ℕ) → below ≡ gathered ks 0 → Behind d l ks (take d order) 0 order p below
   unfolding order_to_go bits_in flatten
-  nothing_behind ks order below small e = record {
+  nothing_behind p same at held fill ks order below e = record {
     upto = omega arith;
     arranged = refl;
     bits = e;
     left = omega (arith, ap (λ n. n * d) (sub-zero l), fitting_bits);
-    state = record { few = few_filling; small = pow_pos (length bytes * 8 - l * d); inside = omega arith };
-    long = long;
-    small = small;
-    filling = length bytes * 8 - l * d;
+    state = record {
+      few = omega (arith, few_filling);
+      small = rw fill (pow_pos p.held);
+      inside = rw same (omega arith);
+    };
+    long = ap length same ∙ long;
+    filling = p.held;
     written =
         ap₂ (λ n s. joined n (encoded_bits l ks (take d order)) ++ s) (sub-zero l)
-        (ap₂ (λ s t. s ++ flatten (map (bits_of 8) t)) (zero_bits (length bytes * 8 - l * d)) (drop-length bytes)
-        ∙ append-nil (replicate (length bytes * 8 - l * d) 0));
+        (rw (fill, at, same)
+        (ap₂ (λ s t. s ++ flatten (map (bits_of 8) t)) (zero_bits p.held) (drop-length bytes)
+        ∙ append-nil (replicate p.held 0)));
   }
 
 -- ---- a step
@@ -81,7 +84,7 @@ module _ {d l : ℕ} {words E : List ℕ} (fit : Fitting d l words) (a : Arrange
   abbrev ks : List ℕ
   ks = numbers_of d (scalar_words l) words
 
-  module _ {m : ℕ} {bytes order : List ℕ} {p : Packing} {below : ℕ} (b : Behind d l ks E m bytes order p below) where
+  module _ {m : ℕ} {order : List ℕ} {p : Packer} {below : ℕ} (b : Behind d l ks E m order p below) where
     -- The order's places hold columns.
     pub columns : ColumnsIn d order
     columns = arranged_columns d order _ fit.shaped.range.d_high b.arranged (order_to_go_lem l ks a m)
@@ -91,12 +94,13 @@ module _ {d l : ℕ} {words E : List ℕ} (fit : Fitting d l words) (a : Arrange
     unfolding encoded_start
     all_behind_order h = b.arranged ∙ ap (order_to_go l ks E) (omega (arith, b.upto))
 
-    pub all_behind_bits : l ≤ m → bytes ≡ pack_bits (joined l (encoded_bits l ks E))
+    pub all_behind_bits : l ≤ m → (bytes : List ℕ) → bytes ≡ p.bytes.now → ((i : ℕ) → get_or bytes i 0 < 256)
+        → bytes ≡ pack_bits (joined l (encoded_bits l ks E))
     unfolding joined bits_length
-    all_behind_bits h =
-        packed p bytes (joined l (encoded_bits l ks E)) b.filling (omega (arith, ends)) (omega (arith, ends))
-        (subst (λ n. joined n (encoded_bits l ks E) ++ bits_in p bytes ≡ joined l (encoded_bits l ks E) ++ replicate b.filling 0) none b.written)
-        b.small
+    all_behind_bits h bytes same small =
+        same ∙ packed p (joined l (encoded_bits l ks E)) b.filling (omega (arith, ends)) (omega (arith, ends))
+        (subst (λ n. joined n (encoded_bits l ks E) ++ bits_in p ≡ joined l (encoded_bits l ks E) ++ replicate b.filling 0) none b.written)
+        (rw same at small)
         (joined_below 2 l (encoded_bits l ks E) (omega arith) (encoded_bits_below l ks a))
         (b.long ∙ ap bytes_for (sym (length-joined d l (encoded_bits l ks E) (λ s q. length-encoded_bits l ks a s))))
       where
@@ -114,14 +118,6 @@ module _ {d l : ℕ} {words E : List ℕ} (fit : Fitting d l words) (a : Arrange
       bits_left : (l - m) * d ≡ (l - suc m) * d + d
       bits_left = ap (λ n. n * d) next ∙ suc-mul (l - suc m) d
 
-      pub room : (r : ℕ) → r < 2 ^ d → Room p d r bytes
-      room r small = record {
-        state = b.state;
-        d_high = fit.shaped.range.d_high;
-        fits = small;
-        room = omega (arith, b.left, bits_left);
-      }
-
       module _ (above r : ℕ) (gather : above ≡ gathered ks (m + 1)) (dealing : bits_of d r ≡ dealt_by (bit_xor above below) (take d order)) where
         dealt : bits_of d r ≡ deal l ks (order_to_go l ks E m) (l - suc m)
         dealt =
@@ -134,24 +130,22 @@ module _ {d l : ℕ} {words E : List ℕ} (fit : Fitting d l words) (a : Arrange
         unfolding encoded_bits
         encoded = dealt ∙ ap (λ n. deal l ks (order_to_go l ks E n) (l - suc m)) (omega arith)
 
-        pub one_more_behind : (q : Packing) (after before : List ℕ) → Put p d r bytes q after → length after ≡ length bytes
-            → ((i : ℕ) → get_or after i 0 < 256) → take d before ≡ rearrange (take d order) (bits_of d r)
-            → Behind d l ks E (m + 1) after before q above
+        pub one_more_behind : (q : Packer) (before : List ℕ) → Put p d r q → take d before ≡ rearrange (take d order) (bits_of d r)
+            → Behind d l ks E (m + 1) before q above
         unfolding order_to_go joined
-        one_more_behind q after before put long small turned =
-            subst (λ n. Behind d l ks E n after before q above) (sym (add-one m)) (record {
+        one_more_behind q before put turned =
+            subst (λ n. Behind d l ks E n before q above) (sym (add-one m)) (record {
               upto = more;
               arranged = turned ∙ ap₂ rearrange b.arranged dealt;
               bits = gather ∙ ap (gathered ks) (add-one m);
               left = omega (arith, put.moved, b.left, bits_left);
               state = put.state;
-              long = long ∙ b.long;
-              small = small;
+              long = put.long ∙ b.long;
               filling = b.filling;
               written =
                   ap (λ s. joined (l - suc m) (encoded_bits l ks E) ++ s)
-                  (put.bits ∙ ap (λ s. s ++ bits_in p bytes) encoded)
-                  ∙ sym (append_assoc (joined (l - suc m) (encoded_bits l ks E)) (encoded_bits l ks E (l - suc m)) (bits_in p bytes))
-                  ∙ ap (λ n. joined n (encoded_bits l ks E) ++ bits_in p bytes) (sym next)
+                  (put.bits ∙ ap (λ s. s ++ bits_in p) encoded)
+                  ∙ sym (append_assoc (joined (l - suc m) (encoded_bits l ks E)) (encoded_bits l ks E (l - suc m)) (bits_in p))
+                  ∙ ap (λ n. joined n (encoded_bits l ks E) ++ bits_in p) (sym next)
                   ∙ b.written;
             })

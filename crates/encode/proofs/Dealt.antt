@@ -6,8 +6,8 @@ use mathlib.Core.List.{List, [], ◌∷◌, ◌++◌, map, map-append}
 use native.Mathlib.Nat.{not-suc-le-zero, le_of_suc-le-suc, div-one, two-pow-succ}
 use native.Mathlib.Numerals.{add-one}
 use native.Mathlib.Omega.{arith}
-use lib.ListN.{length, get_or, take, set, length-map}
-use lib.Seq.{take-suc, take-suc-set, get_or-take, ext_get_or}
+use lib.ListN.{length, get_or, take, length-map}
+use lib.Seq.{take-suc, get_or-take, ext_get_or}
 use lib.Bits.{bit_xor}
 use Rattle.ladder.specs.Lists.{tabulate}
 use Rattle.ladder.specs.Matrix.{Arrangement}
@@ -101,15 +101,3 @@ dealt_parities d ks e =
         ∙ gathered_bit ks 0 j
         ∙ ap (λ n. n % 2) (div-one (get_or ks j 0))
         ∙ sym (get_or-map (λ n. n % 2) ks j 0 0 (omega arith))
-
--- ---- columns counted from 1
-
--- One column more is written.
-pub counted_more : (order start : List ℕ) (k : ℕ) → k < length order → k < length start → take k start ≡ map suc (take k order)
-    → take (k + 1) (set start k (get_or order k 0 + 1)) ≡ map suc (take (k + 1) order)
-counted_more order start k here room e =
-    rw (add-one k, add-one (get_or order k 0)) (
-    take-suc-set start k (suc (get_or order k 0)) room
-    ∙ ap (λ s. s ++ (suc (get_or order k 0) ∷ [])) e
-    ∙ sym (ap (map suc) (take-suc order k 0 here) ∙ map-append suc (take k order) (get_or order k 0 ∷ []))
-    )

@@ -88,10 +88,9 @@ module _ (order : List ℕ) (d r : ℕ) (wide : d ≤ length order) where
       none_left = drop_of_length-le S {i = d} (omega (arith, long))
 
   -- .. a turn puts the column before those that are in it to both places, and counts its bit ..
-  pub one_more_filled : (out : List ℕ) (left f : ℕ) → 0 < left → left ≤ d → d ≤ length out → Filled d S B left f (take d out)
-      → Filled d S B (left - 1) (f + r / 2 ^ (d - left) % 2)
-      (take d (set (set out f (get_or order (left - 1) 0)) (f + (left - 1)) (get_or order (left - 1) 0)))
-  one_more_filled out left f some inside room t = record {
+  pub one_more_filled : (out : List ℕ) (left i f : ℕ) → suc i ≡ left → left ≤ d → d ≤ length out → Filled d S B left f (take d out)
+      → Filled d S B i (f + r / 2 ^ (d - 1 - i) % 2) (take d (set (set out f (get_or order i 0)) (f + i) (get_or order i 0)))
+  one_more_filled out left i f from inside room t = record {
     few = omega (arith, t.few);
     ones = rw (stored, cut_S, cut_B) (ones_more T f i j (omega (arith, t.few, tall)) (drop left S) (drop left B) b (omega arith) t.ones);
     zeros = rw (stored, cut_S, cut_B) (zeros_more T f i j (omega (arith, t.few, tall)) (drop left S) (drop left B) b (omega arith) (rw next t.zeros));
@@ -100,14 +99,11 @@ module _ (order : List ℕ) (d r : ℕ) (wide : d ≤ length order) where
       T : List ℕ
       T = take d out
 
-      i : ℕ
-      i = left - 1
-
       j : ℕ
-      j = get_or order (left - 1) 0
+      j = get_or order i 0
 
       b : ℕ
-      b = r / 2 ^ (d - left) % 2
+      b = r / 2 ^ (d - 1 - i) % 2
 
       tall : length T ≡ d
       tall = length-take-le d out room
@@ -120,9 +116,6 @@ module _ (order : List ℕ) (d r : ℕ) (wide : d ≤ length order) where
       next : suc (f + i) ≡ f + left
       next = omega arith
 
-      from : suc i ≡ left
-      from = omega arith
-
       cut_S : drop i S ≡ j ∷ drop left S
       cut_S =
           drop-cons S i 0 (omega (arith, long))
@@ -131,7 +124,7 @@ module _ (order : List ℕ) (d r : ℕ) (wide : d ≤ length order) where
       cut_B : drop i B ≡ b ∷ drop left B
       cut_B =
           drop-cons B i 0 (omega (arith, length-bits_of d r))
-          ∙ ap₂ (λ a m. a ∷ drop m B) (get_or-bits_of d r i (omega arith) ∙ ap (λ m. r / 2 ^ (d - m) % 2) from) from
+          ∙ ap₂ (λ a m. a ∷ drop m B) (get_or-bits_of d r i (omega arith) ∙ ap (λ m. r / 2 ^ m % 2) (omega arith)) from
 
   -- .. and at the end T is the columns rearranged.
   pub all-filled : (f : ℕ) (T : List ℕ) → Filled d S B 0 f T → T ≡ rearrange S B

@@ -5,6 +5,7 @@ pub mod Parting
 pub mod Filled
 pub mod Written
 pub mod Backward
+pub mod Judged
 pub mod Kept
 -- What follows from the promise alone.
 pub mod Unique

@@ -22,7 +22,6 @@ use Rattle.ladder.proofs.Operations.{EncodeOk, PlanOk, loose_none, encode_none}
 use Rattle.ladder.proofs.Demand2.{decode_encode}
 use Rattle.ladder.proofs.Lengths.{encoded_not_refused}
 use Rattle.ladder.proofs.WorkedCases.{case_holds}
-use Rattle.encode.specs.declared.call.Encoded.{Encoded}
 use Rattle.encode.specs.Promise.{EncodePromise}
 use Rattle.encode.proofs.Unique.{encode_unique}
 
@@ -41,18 +40,18 @@ scalars_below d l scalars = numbers_of_below d (scalar_words l) scalars
 
 -- ---- refused or not
 
-module _ {d l : ℕ} {scalars start bits : List ℕ} {r : Encoded} {startAfter bitsAfter : List ℕ}
-    (promise : EncodePromise d l scalars start bits r startAfter bitsAfter) where
+module _ {d l : ℕ} {scalars start bits : List ℕ} {refusal row : ℕ} {startAfter bitsAfter : List ℕ}
+    (promise : EncodePromise d l scalars start bits refusal row startAfter bitsAfter) where
   -- What the call left, with the row that it answered.
   abbrev plan : Plan
-  plan = plan_lent d l startAfter bitsAfter r.row
+  plan = plan_lent d l startAfter bitsAfter row
 
   -- The refusal is 0 exactly where the input is what encode asks.
-  pub encode_accepts : r.refusal ≡ 0 ↔ EncodeOk d l scalars start bits
+  pub encode_accepts : refusal ≡ 0 ↔ EncodeOk d l scalars start bits
   encode_accepts = subst (λ n. n ≡ 0 ↔ EncodeOk d l scalars start bits) (sym promise.refusal_is) (encode_none d l scalars start bits)
 
   -- On refusal the row is 0, and both outputs are as they came.
-  pub encode_refused : r.refusal ≢ 0 → (r.row ≡ 0) × (startAfter ≡ start) × (bitsAfter ≡ bits)
+  pub encode_refused : refusal ≢ 0 → (row ≡ 0) × (startAfter ≡ start) × (bitsAfter ≡ bits)
   encode_refused some = (
     promise.row_is ∙ refusing_yes _ _ _ some,
     promise.start_is ∙ refusing_yes _ _ _ some,
@@ -61,17 +60,17 @@ module _ {d l : ℕ} {scalars start bits : List ℕ} {r : Encoded} {startAfter b
 
   module _ (ok : EncodeOk d l scalars start bits) where
     -- On accepted input the refusal is 0 ..
-    pub encode_accepted : r.refusal ≡ 0
+    pub encode_accepted : refusal ≡ 0
     encode_accepted = encode_accepts.1 ok
 
     -- .. and what is written is the plan of the scalars.
     pub encode_writes : plan ≡ encode d l (scalars_in d l scalars)
     unfolding encode encode_with
     encode_writes =
-        let row = promise.row_is ∙ refusing_no _ 0 (encode d l (scalars_in d l scalars)).answer encode_accepted in
+        let answered = promise.row_is ∙ refusing_no _ 0 (encode d l (scalars_in d l scalars)).answer encode_accepted in
         let order = promise.start_is ∙ refusing_no _ start (encode d l (scalars_in d l scalars)).start encode_accepted in
         let bytes = promise.bits_are ∙ refusing_no _ bits (encode d l (scalars_in d l scalars)).bits encode_accepted in
-        rw (row, order, bytes)
+        rw (answered, order, bytes)
 
     -- As a plan it is not refused ..
     pub encode_not_refused : loose_refusal plan 0 ≡ 0
@@ -98,7 +97,7 @@ module _ {d l : ℕ} {scalars start bits : List ℕ} {r : Encoded} {startAfter b
 -- The promise is met by the plan of the scalars, where nothing is refused.
 met : (d l : ℕ) (scalars start bits : List ℕ) {places bytes : List ℕ} {row : ℕ} → encode_refusal d l scalars start bits ≡ 0
     → encode d l (scalars_in d l scalars) ≡ plan_lent d l places bytes row
-    → EncodePromise d l scalars start bits (record { refusal = 0; row = row }) places bytes
+    → EncodePromise d l scalars start bits 0 row places bytes
 unfolding refusing
 met d l scalars start bits none e = record {
   refusal_is = sym none;
@@ -109,10 +108,10 @@ met d l scalars start bits none e = record {
 
 -- Four of the worked cases. d 1, l 1: 0 gives 00 and row 1, 1 gives 80 and row 2. d 2, l 2: 2, 1 give start order 1 2, and 3, 3 give 2 1.
 given :
-    EncodePromise 1 1 (0 ∷ []) (0 ∷ []) (0 ∷ []) (record { refusal = 0; row = 1 }) (1 ∷ []) (0x00 ∷ [])
-    × EncodePromise 1 1 (1 ∷ []) (0 ∷ []) (0 ∷ []) (record { refusal = 0; row = 2 }) (1 ∷ []) (0x80 ∷ [])
-    × EncodePromise 2 2 (2 ∷ 1 ∷ []) (0 ∷ 0 ∷ []) (0 ∷ []) (record { refusal = 0; row = 2 }) (1 ∷ 2 ∷ []) (0xb0 ∷ [])
-    × EncodePromise 2 2 (3 ∷ 3 ∷ []) (0 ∷ 0 ∷ []) (0 ∷ []) (record { refusal = 0; row = 3 }) (2 ∷ 1 ∷ []) (0xc0 ∷ [])
+    EncodePromise 1 1 (0 ∷ []) (0 ∷ []) (0 ∷ []) 0 1 (1 ∷ []) (0x00 ∷ [])
+    × EncodePromise 1 1 (1 ∷ []) (0 ∷ []) (0 ∷ []) 0 2 (1 ∷ []) (0x80 ∷ [])
+    × EncodePromise 2 2 (2 ∷ 1 ∷ []) (0 ∷ 0 ∷ []) (0 ∷ []) 0 2 (1 ∷ 2 ∷ []) (0xb0 ∷ [])
+    × EncodePromise 2 2 (3 ∷ 3 ∷ []) (0 ∷ 0 ∷ []) (0 ∷ []) 0 3 (2 ∷ 1 ∷ []) (0xc0 ∷ [])
 unfolding tabulate all number_of numbers_of bytes_for scalar_words scalars_length start_length bits_length ◌then◌ unless within dim len shape scalar scalars_in encode_refusal
 given = (
   met _ _ _ _ _ refl (case_holds 1).0,
@@ -122,25 +121,24 @@ given = (
 )
 
 -- No one start order meets the promise for 2, 1 and for 3, 3 ..
-pub no_constant_start : {r r' : Encoded} {S bits bits' : List ℕ} → EncodePromise 2 2 (2 ∷ 1 ∷ []) (0 ∷ 0 ∷ []) (0 ∷ []) r S bits
-    → EncodePromise 2 2 (3 ∷ 3 ∷ []) (0 ∷ 0 ∷ []) (0 ∷ []) r' S bits' → ⊥
+pub no_constant_start : {r r' row row' : ℕ} {S bits bits' : List ℕ} → EncodePromise 2 2 (2 ∷ 1 ∷ []) (0 ∷ 0 ∷ []) (0 ∷ []) r row S bits
+    → EncodePromise 2 2 (3 ∷ 3 ∷ []) (0 ∷ 0 ∷ []) (0 ∷ []) r' row' S bits' → ⊥
 no_constant_start p q =
-    let a = (encode_unique p given.2).1 in
-    let b = (encode_unique q given.3).1 in
+    let a = (encode_unique p given.2).2 in
+    let b = (encode_unique q given.3).2 in
     let z : ◌≡◌ {A = ℕ} 1 2 = cc in
     omega arith
 
 -- .. no one list of bits for 0 and for 1 ..
-pub no_constant_bits : {r r' : Encoded} {start start' B : List ℕ} → EncodePromise 1 1 (0 ∷ []) (0 ∷ []) (0 ∷ []) r start B
-    → EncodePromise 1 1 (1 ∷ []) (0 ∷ []) (0 ∷ []) r' start' B → ⊥
+pub no_constant_bits : {r r' row row' : ℕ} {start start' B : List ℕ} → EncodePromise 1 1 (0 ∷ []) (0 ∷ []) (0 ∷ []) r row start B
+    → EncodePromise 1 1 (1 ∷ []) (0 ∷ []) (0 ∷ []) r' row' start' B → ⊥
 no_constant_bits p q =
-    let a = (encode_unique p given.0).2 in
-    let b = (encode_unique q given.1).2 in
+    let a = (encode_unique p given.0).3 in
+    let b = (encode_unique q given.1).3 in
     let z : ◌≡◌ {A = ℕ} 0x00 0x80 = cc in
     omega arith
 
 -- .. and no one row.
-pub no_constant_row : {r r' : Encoded} {start start' bits bits' : List ℕ} → EncodePromise 1 1 (0 ∷ []) (0 ∷ []) (0 ∷ []) r start bits
-    → EncodePromise 1 1 (1 ∷ []) (0 ∷ []) (0 ∷ []) r' start' bits' → r.row ≡ r'.row → ⊥
-no_constant_row p q e =
-    omega (arith, ap (λ a. a.row) (encode_unique p given.0).0, ap (λ a. a.row) (encode_unique q given.1).0)
+pub no_constant_row : {r r' row : ℕ} {start start' bits bits' : List ℕ} → EncodePromise 1 1 (0 ∷ []) (0 ∷ []) (0 ∷ []) r row start bits
+    → EncodePromise 1 1 (1 ∷ []) (0 ∷ []) (0 ∷ []) r' row start' bits' → ⊥
+no_constant_row p q = omega (arith, (encode_unique p given.0).1, (encode_unique q given.1).1)

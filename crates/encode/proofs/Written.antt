@@ -14,7 +14,7 @@ use Rattle.ladder.specs.Lists.{tabulate}
 use Rattle.ladder.specs.Walk.{bits_of}
 use Rattle.ladder.proofs.Lists.{get_or_zeros}
 use Rattle.ladder.proofs.Bits.{length-pack_bits, pack_bits_below, bit_at-pack_bits, bytes_unique, bit_at_byte}
-use Rattle.encode.specs.declared.packing.Packing.{Packing}
+use Rattle.encode.specs.declared.packing.Packer.{Packer}
 use Rattle.encode.specs.Inner.Packing.{bits_in, Room, Put}
 use Rattle.ladder.proofs.Walk.{length-bits_of, get_or-bits_of}
 use Rattle.encode.proofs.Digits.{bits_of-append}
@@ -25,67 +25,79 @@ bits_of_bytes bytes = flatten (map (bits_of 8) bytes)
 
 -- ---- one number put before what is written
 
-module _ (p : Packing) (d r : ℕ) (bytes : List ℕ) (room : Room p d r bytes) where
+module _ (p : Packer) (d r : ℕ) (room : Room p d r) where
   -- The number that is held then.
   abbrev filled : ℕ
-  filled = r * 2 ^ p.held + p.fill
+  filled = p.fill + r * 2 ^ p.held
 
   -- It has held + d bits.
-  pub filled_below : filled < 2 ^ (p.held + d)
+  filled_below : filled < 2 ^ (p.held + d)
   filled_below =
       let e : p.held + d ≡ d + p.held = omega arith in
-      rw (e, pow-add 2 d p.held) (digits_lt room.fits room.state.small)
+      rw (e, pow-add 2 d p.held) (omega (arith, digits_lt room.fits room.state.small))
 
   filled_bits : bits_of (p.held + d) filled ≡ bits_of d r ++ bits_of p.held p.fill
   filled_bits =
       let e : p.held + d ≡ d + p.held = omega arith in
-      ap (λ n. bits_of n filled) e ∙ bits_of-append d p.held r p.fill room.state.small
+      let f : filled ≡ r * 2 ^ p.held + p.fill = omega arith in
+      ap₂ bits_of e f ∙ bits_of-append d p.held r p.fill room.state.small
 
   -- The shift loses nothing.
   pub shifted : r * 2 ^ p.held % 2 ^ 64 ≡ r * 2 ^ p.held
   shifted = shl_exact d p.held 64 room.fits (omega (arith, room.d_high, room.state.few))
 
   -- Where no byte is finished, more is held ..
-  pub put_held : p.held + d < 8 → Put p d r bytes (record { at = p.at; held = p.held + d; fill = filled }) bytes
+  pub put_held : (q : Packer) → p.held + d < 8 → q.at ≡ p.at → q.held ≡ p.held + d → q.fill ≡ filled → q.bytes.now ≡ p.bytes.now → Put p d r q
   unfolding bits_in
-  put_held h = record {
-    state = record { few = h; small = filled_below; inside = room.state.inside };
+  put_held q h at held fill bytes = record {
+    state = record {
+      few = omega arith;
+      small = rw (held, fill) filled_below;
+      inside = rw (at, bytes) room.state.inside;
+    };
     moved = omega arith;
+    long = ap length bytes;
     bits =
-        ap (λ s. s ++ bits_of_bytes (drop p.at bytes)) filled_bits
-        ∙ append_assoc (bits_of d r) (bits_of p.held p.fill) (bits_of_bytes (drop p.at bytes));
+        rw (at, held, fill, bytes)
+        (ap (λ s. s ++ bits_of_bytes (drop p.at p.bytes.now)) filled_bits
+        ∙ append_assoc (bits_of d r) (bits_of p.held p.fill) (bits_of_bytes (drop p.at p.bytes.now)));
   }
 
   -- .. and a finished byte is written before the others.
-  pub put_byte : 8 ≤ p.held + d
-      → Put p d r bytes (record { at = p.at - 1; held = p.held + d - 8; fill = filled / 256 }) (set bytes (p.at - 1) (filled % 256))
+  pub put_byte : (q : Packer) → 8 ≤ p.held + d → q.at ≡ p.at - 1 → q.held ≡ p.held + d - 8 → q.fill ≡ filled / 256
+      → q.bytes.now ≡ set p.bytes.now (p.at - 1) (filled % 256) → Put p d r q
   unfolding bits_in
-  put_byte h = record {
+  put_byte q h at held fill bytes = record {
     state = record {
       few = omega (arith, room.d_high, room.state.few);
-      small = shr_lt (p.held + d - 8) 8 (rw more filled_below);
-      inside = rw (length-set bytes (p.at - 1) (filled % 256)) (omega (arith, room.state.inside));
+      small = rw (held, fill) (shr_lt (p.held + d - 8) 8 (rw more filled_below));
+      inside = omega (arith, long, room.state.inside);
     };
     moved = omega (arith, room.room);
+    long = long;
     bits =
-        ap (λ s. bits_of (p.held + d - 8) (filled / 256) ++ bits_of_bytes s) written
+        rw (at, held, fill, bytes)
+        (ap (λ s. bits_of (p.held + d - 8) (filled / 256) ++ bits_of_bytes s) written
         ∙ unfold flatten in
-        sym (append_assoc (bits_of (p.held + d - 8) (filled / 256)) (bits_of 8 (filled % 256)) (bits_of_bytes (drop p.at bytes)))
-        ∙ ap (λ s. s ++ bits_of_bytes (drop p.at bytes)) all
-        ∙ append_assoc (bits_of d r) (bits_of p.held p.fill) (bits_of_bytes (drop p.at bytes));
+        sym (append_assoc (bits_of (p.held + d - 8) (filled / 256)) (bits_of 8 (filled % 256)) (bits_of_bytes (drop p.at p.bytes.now)))
+        ∙ ap (λ s. s ++ bits_of_bytes (drop p.at p.bytes.now)) all
+        ∙ append_assoc (bits_of d r) (bits_of p.held p.fill) (bits_of_bytes (drop p.at p.bytes.now)));
   }
     where
       more : p.held + d - 8 + 8 ≡ p.held + d
       more = omega arith
 
-      written : drop (p.at - 1) (set bytes (p.at - 1) (filled % 256)) ≡ filled % 256 ∷ drop p.at bytes
+      long : length q.bytes.now ≡ length p.bytes.now
+      long = ap length bytes ∙ length-set p.bytes.now (p.at - 1) (filled % 256)
+
+      written : drop (p.at - 1) (set p.bytes.now (p.at - 1) (filled % 256)) ≡ filled % 256 ∷ drop p.at p.bytes.now
       written =
-          let inside : p.at - 1 < length bytes = omega (arith, room.room, room.state.inside) in
+          let inside : p.at - 1 < length p.bytes.now = omega (arith, room.room, room.state.inside) in
           let next : suc (p.at - 1) ≡ p.at = omega (arith, room.room) in
-          ap (drop (p.at - 1)) (set_split bytes (p.at - 1) (filled % 256) inside)
-          ∙ drop_at (take (p.at - 1) bytes) (filled % 256 ∷ drop (suc (p.at - 1)) bytes) (p.at - 1)
-          (length-take-le (p.at - 1) bytes (omega arith))
-          ∙ ap (λ n. filled % 256 ∷ drop n bytes) next
+          ap (drop (p.at - 1)) (set_split p.bytes.now (p.at - 1) (filled % 256) inside)
+          ∙ drop_at (take (p.at - 1) p.bytes.now) (filled % 256 ∷ drop (suc (p.at - 1)) p.bytes.now) (p.at - 1)
+          (length-take-le (p.at - 1) p.bytes.now (omega arith))
+          ∙ ap (λ n. filled % 256 ∷ drop n p.bytes.now) next
 
       all : bits_of (p.held + d - 8) (filled / 256) ++ bits_of 8 (filled % 256) ≡ bits_of d r ++ bits_of p.held p.fill
       all =
@@ -119,22 +131,23 @@ get_or-filled (b ∷ J) n zero = refl
 get_or-filled (b ∷ J) n (suc i) = get_or-filled J n i
 
 -- Bytes whose bits are those of a list and filling zeros are the list packed.
-pub packed : (p : Packing) (bytes J : List ℕ) (n : ℕ) → p.at ≡ 0 → p.held ≡ 0 → bits_in p bytes ≡ J ++ replicate n 0
-    → ((i : ℕ) → get_or bytes i 0 < 256) → ((i : ℕ) → get_or J i 0 < 2) → length bytes ≡ bytes_for (length J) → bytes ≡ pack_bits J
+pub packed : (p : Packer) (J : List ℕ) (n : ℕ) → p.at ≡ 0 → p.held ≡ 0 → bits_in p ≡ J ++ replicate n 0
+    → ((i : ℕ) → get_or p.bytes.now i 0 < 256) → ((i : ℕ) → get_or J i 0 < 2) → length p.bytes.now ≡ bytes_for (length J)
+    → p.bytes.now ≡ pack_bits J
 unfolding bits_in
-packed p bytes J n at held e hb hJ long =
-    bytes_unique bytes (pack_bits J) (long ∙ sym (length-pack_bits J)) hb (pack_bits_below J hJ)
+packed p J n at held e hb hJ long =
+    bytes_unique p.bytes.now (pack_bits J) (long ∙ sym (length-pack_bits J)) hb (pack_bits_below J hJ)
     (λ i. bit i ∙ sym (bit_at-pack_bits J hJ i))
   where
-    whole : bits_of_bytes bytes ≡ J ++ replicate n 0
+    whole : bits_of_bytes p.bytes.now ≡ J ++ replicate n 0
     whole = unfold bits_of tabulate in rw (at, held) at e
 
-    bit : (i : ℕ) → bit_at bytes i ≡ get_or J i 0
+    bit : (i : ℕ) → bit_at p.bytes.now i ≡ get_or J i 0
     bit i =
         let parts : 8 * (i / 8) + i % 8 ≡ i = omega arith in
         rw parts at (
-        bit_at_byte bytes (i / 8) (i % 8) (omega arith)
-        ∙ sym (get_or_bytes bytes (i / 8) (i % 8) (omega arith))
+        bit_at_byte p.bytes.now (i / 8) (i % 8) (omega arith)
+        ∙ sym (get_or_bytes p.bytes.now (i / 8) (i % 8) (omega arith))
         ∙ ap (λ s. get_or s (8 * (i / 8) + i % 8) 0) whole
         ∙ get_or-filled J n (8 * (i / 8) + i % 8)
         )

@@ -9,11 +9,8 @@ pub fn deal(order: [u8; 8], d: usize, dealt: u64) -> u64
     ensures { (bits_of d result ≡ dealt_by dealt (take d order)) × (result < 2 ^ d) }
 {
     let mut r: u64 = 0;
-    let mut k = 0;
-    while k < d {
-        let j = order[k] as usize;
-        r = r * 2 + (dealt >> j) % 2;
-        k += 1;
+    for column in &order[..d] {
+        r = r * 2 + (dealt >> *column) % 2;
     }
     r
 }

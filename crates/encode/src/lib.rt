@@ -7,4 +7,4 @@ mod order;
 mod packing;
 mod steps;
 
-pub use call::{Encoded, encode};
+pub use call::encode;

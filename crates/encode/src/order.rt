@@ -18,10 +18,8 @@ pub fn rearrange(order: [u8; 8], d: usize, r: u64) -> [u8; 8]
 {
     let mut out = [0u8; 8];
     let mut front: usize = 0;
-    let mut left = d;
-    while 0 < left {
-        let after = d - left;
-        left -= 1;
+    for left in (0..d).rev() {
+        let after = d - 1 - left;
         let column = order[left];
         out[front] = column;
         out[front + left] = column;

@@ -9,24 +9,23 @@ ghost use Rattle.encode.specs.Inner.Order.{ColumnsIn};
 
 use crate::dealing::deal;
 use crate::order::rearrange;
-use crate::packing::{Packing, put};
+use crate::packing::Packer;
 use scalars::gather;
 
-// Writes the first d columns of an order, counted from 1.
-fn write_start(order: [u8; 8], d: usize, start: &mut [u8])
-    requires columns_in { ColumnsIn d order }
-    requires start_len { length start.old ≡ d }
-    ensures { start.new ≡ map suc (take d order) }
+// Writes the first columns of an order, counted from 1: as many as there are places.
+fn write_start(order: [u8; 8], start: &mut [u8])
+    requires { ColumnsIn (length start.old) order }
+    ensures { start.new ≡ map suc (take (length start.old) order) }
 {
-    let mut k = 0;
-    while k < d {
-        start[k] = order[k] + 1;
-        k += 1;
+    // By hand: with `zip(&order)` no proof knows afterwards what was written.
+    for (k, place) in start.iter_mut().enumerate() {
+        *place = order[k] + 1;
     }
 }
 
 // Writes the start order and the bits that scalars and an end order give, from the last step to the first. The bits gathered
 // for one step, `above`, are `below` for the next. The filling bits, 0, stand last, so they are the first that are held.
+#[tactic(auto, using(crate::proofs::Backward::fitting_bits, crate::proofs::Backward::few_filling))]
 pub fn encode_with(
     d: usize,
     l: usize,
@@ -43,22 +42,17 @@ pub fn encode_with(
     ensures bits { bits.new ≡ pack_bits (joined l (encoded_bits l (numbers_of d (scalar_words l) scalars.now) (take d end))) }
 {
     let mut order = end;
-    let mut packing = Packing {
-        at: bits.len(),
-        held: bits.len() * 8 - l * d,
-        fill: 0,
-    };
+    let filling = bits.len() * 8 - l * d;
+    let mut packer = Packer::new(bits, filling);
     let mut below = gather(d, l, 0, scalars);
-    let mut i = 0;
-    while i < l {
+    for i in 0..l {
         let above = gather(d, l, i + 1, scalars);
         let r = deal(order, d, above ^ below);
-        let next = put(packing, d, r, bits);
+        packer.put(d, r);
+        // By hand: `order = rearrange(..)` gets no generated proof, since an array is lent there.
         let before = rearrange(order, d, r);
-        packing = next;
         order = before;
         below = above;
-        i += 1;
     }
-    write_start(order, d, start);
+    write_start(order, start);
 }

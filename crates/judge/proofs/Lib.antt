@@ -1,3 +1,3 @@
 -- Laws of judging a plan, and of the start of its walk.
-pub mod Judged
 pub mod Starting
+pub mod Judged

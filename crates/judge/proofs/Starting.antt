@@ -1,60 +1,34 @@
--- The start state, filled in place by place.
+-- The start state: the start order and as many signs +1, each in front of zeros.
 -- Assumes nothing.
-use Prim.Native.Nat.{ℕ, suc, pred, ◌+◌, ◌-◌, ◌≤◌, ◌<◌}
-use mathlib.Core.Path.{◌≡◌, refl, sym, ap, ap₂, ◌∙◌}
-use mathlib.Core.List.{List, [], ◌∷◌, ◌++◌, map}
-use native.Mathlib.Numerals.{add-one}
+use Prim.Native.Nat.{ℕ, pred, ◌-◌, ◌≤◌}
+use mathlib.Core.Path.{◌≡◌, ap, ap₂, ◌∙◌}
+use mathlib.Core.List.{List, ◌++◌, map}
 use native.Mathlib.Omega.{arith}
 use lib.IntN.{ℤ, pos}
-use lib.ListN.{length, get_or, set, take, replicate, length-replicate, replicate-append-replicate}
-use lib.Seq.{set_at, take-suc, take-length, length-take-le, append_snoc}
+use lib.ListN.{length, drop, take, replicate}
+use lib.Seq.{length-take-le}
+use Rattle.std.proofs.lemmas.List.{drop-replicate}
 use Rattle.ladder.specs.Matrix.{OrderOk, start_signs}
 use Rattle.ladder.specs.Plan.{Plan, start_order}
 use Rattle.ladder.specs.Walk.{Walk, walk_of}
 use Rattle.ladder.proofs.Refusals.{Accepted}
 use Rattle.ladder.proofs.Tests.{order_long}
 
--- A run of values at the front, and the rest as it was: one more.
-front_more : {A : Type 0} (p : List A) (a b : A) (n k : ℕ) → length p ≡ k → k < n
-    → set (p ++ replicate (n - k) b) k a ≡ (p ++ (a ∷ [])) ++ replicate (n - (k + 1)) b
-front_more p a b n k e h =
-    let m : n - k ≡ suc (n - (k + 1)) = omega arith in
-    ap (λ t. set (p ++ replicate t b) k a) m ∙ set_at p b (replicate (n - (k + 1)) b) a k e
-    ∙ sym (append_snoc p a (replicate (n - (k + 1)) b))
-
--- The places filled so far.
-pub record Starting (start order : List ℕ) (signs : List ℤ) (k : ℕ) : Type 0 where
-  pub inside : k ≤ length start
-  pub places : order ≡ take k start ++ replicate (8 - k) 0
-  pub units : signs ≡ replicate k (pos 1) ++ replicate (8 - k) (pos 0)
-
-pub starting_starts : (start : List ℕ) → Starting start (replicate 8 0) (replicate 8 (pos 0)) 0
-starting_starts start = record { inside = omega arith; places = refl; units = refl }
-
-pub starting_next : (start order : List ℕ) (signs : List ℤ) (k : ℕ) → Starting start order signs k → k < length start → k < 8
-    → Starting start (set order k (get_or start k 0)) (set signs k (pos 1)) (k + 1)
-starting_next start order signs k s h l = record {
-  inside = omega arith;
-  places =
-      ap (λ o. set o k (get_or start k 0)) s.places
-      ∙ front_more (take k start) (get_or start k 0) 0 8 k (length-take-le k start (omega arith)) l
-      ∙ ap (λ t. t ++ replicate (8 - (k + 1)) 0) (sym (ap (λ n. take n start) (add-one k) ∙ take-suc start k 0 h));
-  units =
-      ap (λ o. set o k (pos 1)) s.units
-      ∙ front_more (replicate k (pos 1)) (pos 1) (pos 0) 8 k (length-replicate k (pos 1)) l
-      ∙ ap (λ t. t ++ replicate (8 - (k + 1)) (pos 0)) (replicate-append-replicate k 1 (pos 1));
-}
-
-pub starting_ends : (d : ℕ) (start order : List ℕ) (signs : List ℤ) (k : ℕ) → Starting start order signs k → length start ≤ k → OrderOk d start
-    → record { d = d; order = order; signs = signs } ≡ walk_of d (map pred start) (start_signs d)
+-- The first places overwritten by what is placed there, and the zeros behind it.
+pub started : {d : ℕ} {start : List ℕ} → (d ≤ 8) × OrderOk d start → (order : List ℕ) (signs : List ℤ)
+    → order ≡ start → signs ≡ replicate (length (take (length start) (replicate 8 (pos 0)))) (pos 1)
+    → record { d = d; order = order ++ drop (length start) (replicate 8 0); signs = signs ++ drop (length start) (replicate 8 (pos 0)) }
+    ≡ walk_of d (map pred start) (start_signs d)
 unfolding walk_of start_signs
-starting_ends d start order signs k s h ok =
-    let long = order_long start ok in
-    let f : k ≡ d = omega (arith, s.inside) in
-    let g : k ≡ length start = omega (arith, s.inside) in
+started {d} {start} ok order signs p q =
+    let long : length start ≡ d = order_long start ok.1 in
+    let zeros : (A : Type 0) (a : A) → drop (length start) (replicate 8 a) ≡ replicate (8 - d) a =
+    λ A a. drop-replicate (length start) 8 a ∙ ap (λ n. replicate (8 - n) a) long in
+    let ones : signs ≡ replicate d (pos 1) =
+    q ∙ ap (λ n. replicate n (pos 1)) (length-take-le (length start) (replicate 8 (pos 0)) (omega (arith, ok.0)) ∙ long) in
     ap₂ (λ o n. record { d = d; order = o; signs = n })
-    (s.places ∙ ap₂ (λ t n. t ++ replicate (8 - n) 0) (ap (λ n. take n start) g ∙ take-length start ∙ ok.counted) f)
-    (s.units ∙ ap (λ n. replicate n (pos 1) ++ replicate (8 - n) (pos 0)) f)
+    (ap₂ ◌++◌ (p ∙ ok.1.counted) (zeros ℕ 0))
+    (ap₂ ◌++◌ ones (zeros ℤ (pos 0)))
 
 -- ---- a plan's walk
 

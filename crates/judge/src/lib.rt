@@ -2,10 +2,8 @@
 // and the walk state that a plan starts with. An inside, for the crates of this repository.
 #![tactic(auto)]
 
-mod beside;
 mod plans;
 mod start;
 
-pub use beside::Beside;
 pub use plans::{loose_refusal, read_refusal};
 pub use start::start_walk;

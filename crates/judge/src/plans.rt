@@ -1,37 +1,40 @@
 // The refusal of a plan that is read.
-ghost use Rattle.std.specs.Prelude.{◌≡◌, length};
+ghost use Rattle.std.specs.Prelude.{◌≡◌, ℕ, length};
 ghost use Rattle.ladder.specs.Numbers.{bits_length};
-ghost use Rattle.ladder.specs.Plan.{plan_lent};
 ghost use Rattle.ladder.specs.Refusals.{read_refusal, loose_refusal};
+ghost use Rattle.loose.specs.PlanOf.{plan_of};
+ghost use Rattle.refusal.specs.Answers.{refusal_of};
 ghost use Rattle.refuse.specs.Inner.{InRange};
-ghost use Rattle.judge.specs.Inner.{beside_shape};
+ghost use Rattle.judge.specs.Inner.{Gives};
 
-use crate::beside::{Beside, others};
-use refuse::{OK, bits_length, shape};
+use loose::Plan;
+use refusal::Refusal;
+use refuse::{bits_length, shape};
 
 // What a plan whose shapes are right must be besides, whether it is lent or stands in a file: 5, 6. It is handed the whole plan, though no
 // number looks at l or the bits.
-pub fn read_refusal(d: u64, l: u64, start: &[u8], bits: &[u8], row: u64) -> u64
-    requires { InRange d l × (length bits.now ≡ bits_length d l) }
-    ensures { result ≡ read_refusal (plan_lent d l start.now bits.now row) }
+#[tactic(auto, unfolding(ladder::specs::Refusals::read_refusal), using(refusal::proofs::Laws::then_refused, refusal::proofs::Laws::then_passed))]
+pub fn read_refusal(plan: &Plan) -> Result<(), Refusal>
+    requires { InRange plan.now.d plan.now.l × (length plan.now.bits.now ≡ bits_length plan.now.d plan.now.l) }
+    ensures { refusal_of result ≡ read_refusal (plan_of plan.now) }
 {
-    let placed = refuse::order(d, start);
-    let reached = refuse::answer(d, row);
-    refuse::first(placed, reached)
+    refuse::order(plan.d, plan.start)?;
+    refuse::answer(plan.d, plan.row)
 }
 
-// A loose plan, lent as a start order and bits: 1, 2, 3, 5, 6. Number 3 covers these and what is lent beside them.
-pub fn loose_refusal(d: u64, l: u64, start: &[u8], bits: &[u8], row: u64, beside: Beside) -> u64
-    ensures { result ≡ loose_refusal (plan_lent d l start.now bits.now row) (beside_shape d l beside) }
+// A loose plan: 1, 2, 3, 5, 6. Number 3 covers its own buffers, and then what a call is lent beside it: `others` judges that by d and l, once
+// these are in range.
+pub fn loose_refusal<F: FnOnce(u64, u64) -> Result<(), Refusal>>(
+    plan: &Plan,
+    others: F,
+) -> Result<(), Refusal>
+    requires { InRange plan.now.d plan.now.l → F.pre others plan.now.d plan.now.l }
+    ensures { (n : ℕ) → Gives (F.post others plan.now.d plan.now.l) (plan_of plan.now) n
+        → refusal_of result ≡ loose_refusal (plan_of plan.now) n }
 {
-    let range = refuse::range(d, l);
-    if range != OK {
-        return range;
-    }
-    let own = refuse::first(shape(start.len(), d), shape(bits.len(), bits_length(d, l)));
-    let shapes = refuse::first(own, others(d, l, beside));
-    if shapes != OK {
-        return shapes;
-    }
-    read_refusal(d, l, start, bits, row)
+    refuse::range(plan.d, plan.l)?;
+    shape(plan.start.len(), plan.d)?;
+    shape(plan.bits.len(), bits_length(plan.d, plan.l))?;
+    others(plan.d, plan.l)?;
+    read_refusal(plan)
 }

@@ -11,13 +11,9 @@ pub fn start_walk(d: u64, start: &[u8]) -> Walk
     requires { (d ≤ 8) × OrderOk d start.now }
     ensures { walk_state result ≡ walk_of d (map pred start.now) (start_signs d) }
 {
-    let mut order = [0u8; 8];
-    let mut signs = [0i8; 8];
-    let mut k: usize = 0;
-    while k < start.len() {
-        order[k] = start[k];
-        signs[k] = 1;
-        k += 1;
-    }
+    let mut order = [0; 8];
+    order[..start.len()].copy_from_slice(start);
+    let mut signs = [0; 8];
+    signs[..start.len()].fill(1);
     Walk { d, order, signs }
 }

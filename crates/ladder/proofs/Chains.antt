@@ -29,7 +29,7 @@ unfolding read_refusal
 read_chain p = refl
 
 -- A loose plan, up to its own buffers: 1, 2, 3; then the other buffers of the call (3), then what is read.
-loose_chain : (p : Plan) (others : ℕ)
+pub loose_chain : (p : Plan) (others : ℕ)
     → loose_refusal p others
     ≡ dim p.d then len p.l then shape p.start (start_length p.d) then shape p.bits (bits_length p.d p.l)
     then others then read_refusal p

@@ -10,7 +10,19 @@ use native.Mathlib.Decide.{ℕ_discrete, dec_lt}
 use native.Mathlib.Omega.{arith}
 use lib.Dec.{T, eqb, eqb→eq, eqb_refl}
 use lib.ListN.{length, get_or, replicate, length-append}
+use Rattle.std.specs.List.{count_by, fold}
 use Rattle.ladder.specs.Lists.{tabulate, joined, same, count, ones, odds}
+
+-- ---- the library's word
+
+-- How often a number occurs: how many elements are equal to it, counted on from n.
+counted : (v n : ℕ) (s : List ℕ) → fold (λ a x. a + cond (eqb x v) 1 0) n s ≡ n + count v s
+unfolding count same
+counted v n [] = omega arith
+counted v n (x ∷ s) = counted v (n + cond (eqb x v) 1 0) s ∙ omega arith
+
+pub count_is : (v : ℕ) (s : List ℕ) → count_by (λ x. eqb x v) s ≡ count v s
+count_is v s = counted v 0 s ∙ omega arith
 
 -- ---- a list made from a rule
 

@@ -3,6 +3,7 @@
 use Prim.Native.Nat.{ℕ, zero, suc, pred, ◌+◌, ◌-◌, ◌≤◌, ◌<◌}
 use mathlib.Core.Path.{◌≡◌, refl, sym, ap, ap₂, subst, ◌∙◌}
 use mathlib.Core.Logic.{◌↔◌, ◌⊎◌, inl, inr, ⊎_elim}
+use Rattle.std.specs.Prelude.{IsTrue}
 use mathlib.Core.Bool.{Bool, true, false, cond, ◌&&◌}
 use mathlib.Core.List.{List, [], ◌∷◌, map}
 use native.Mathlib.Nat.{le_of_suc-le-suc, not-suc-le-zero, suc-pred-eq_of_pos}
@@ -113,9 +114,18 @@ unless_says {test} n s = (λ e. s.told (unless_none test n e), λ p. none_unless
 pub reworded : {test : Bool} {P Q : Type 0} → Says test P → P ↔ Q → Says test Q
 reworded s e = record { told = λ t. e.0 (s.told t); passed = λ q. s.passed (e.1 q) }
 
+-- A test says that it passes.
+pub true_says : (test : Bool) → Says test (IsTrue test)
+true_says true = record { told = λ t. refl; passed = λ e. tt }
+true_says false = record { told = λ t. absurd t; passed = λ e. absurd (let w : false ≡ true = e in (cc)) }
+
 -- The test of "at most".
 pub leb_says : (m n : ℕ) → Says (leb m n) (m ≤ n)
 leb_says m n = record { told = leb→le m n; passed = le→leb m n }
+
+-- The test of "less than".
+pub ltb_says : (m n : ℕ) → Says (ltb m n) (m < n)
+ltb_says m n = leb_says (suc m) n
 
 -- The test of equality.
 pub eqb_says : (m n : ℕ) → Says (eqb m n) (m ≡ n)
@@ -136,6 +146,14 @@ says_true s e = s.told (rw e tt)
 
 pub says_false : {t : Bool} {P : Type 0} → Says t P → t ≡ false → P → ⊥
 says_false s e p = rw e at (s.passed p)
+
+-- An answer that is yes exactly where that is so is the test's.
+pub says_same : {t r : Bool} {P : Type 0} → Says t P → IsTrue r ↔ P → r ≡ t
+says_same {r = true} s e = says_yes s (e.0 refl)
+says_same {r = false} s e = says_no s (λ p. bool_differ (e.1 p))
+  where
+    bool_differ : false ≡ true → ⊥
+    bool_differ w = cc
 
 -- Two tests say what both say.
 pub and_says : {a b : Bool} {P Q : Type 0} → Says a P → Says b Q → Says (a && b) (P × Q)

@@ -1,56 +1,49 @@
 -- What the program writes: the lines that the listing put, or the line of the number that it refuses by; and what follows of it.
 -- Assumes nothing.
-use Prim.Native.Nat.{ℕ, ◌≤◌, ◌<◌}
+use Prim.Native.Nat.{ℕ, ◌≤◌}
 use mathlib.Core.Path.{◌≡◌, sym, ap, ◌∙◌}
 use mathlib.Core.Logic.{◌≢◌}
 use mathlib.Core.List.{List, ◌++◌}
-use native.Mathlib.Nat.{zero-add}
 use native.Mathlib.Omega.{arith}
 use lib.ListN.{length, take, drop, length-append}
-use lib.Seq.{sets-eq, take_at}
+use lib.Seq.{take_at}
 use Rattle.ladder.specs.Numbers.{longest_text}
 use Rattle.ladder.specs.PlanFile.{plan_in}
 use Rattle.ladder.specs.Refusals.{◌then◌, big, unpack_refusal, list_refusal, listing_refusal}
 use Rattle.ladder.specs.Listing.{refused_text, plan_text, listing_text}
 use Rattle.ladder.proofs.Tests.{then_next, refusing_no, refusing_yes}
 use Rattle.ladder.proofs.Refusals.{shape_none}
-use Rattle.ladder.proofs.Texts.{list_refusal_small, listing_fits}
-use Rattle.listing.specs.declared.call.Listed.{Listed}
+use Rattle.ladder.proofs.Texts.{listing_fits}
 use Rattle.listing.specs.Promise.{ListingPromise}
 use Rattle.listing.proofs.Promised.{listing_refused}
-use Rattle.text.specs.Inner.{Fits, Put}
 use Rattle.list.specs.Promise.{Written}
 
-module _ {file text : List ℕ} {r : Listed} {after : List ℕ} (promise : ListingPromise file text r after) (room : length text ≡ longest_text) where
+module _ {file text : List ℕ} {refusal size : ℕ} {after : List ℕ} (promise : ListingPromise file text refusal size after)
+    (room : length text ≡ longest_text) where
   -- The buffer being right, the number is the program's ..
-  number_is : r.refusal ≡ list_refusal file
+  number_is : refusal ≡ list_refusal file
   unfolding listing_refusal list_refusal
   number_is = promise.refusal_is ∙ ap (λ n. big file then n) (then_next _ (unpack_refusal file) ((shape_none text longest_text).1 room))
 
-  module _ (some : r.refusal ≢ 0) where
-    line_is : refused_text r.refusal ≡ listing_text file
+  module _ (some : refusal ≢ 0) where
+    line_is : refused_text refusal ≡ listing_text file
     unfolding listing_text
     line_is = ap refused_text number_is ∙ sym (refusing_yes (list_refusal file) _ _ (λ z. some (number_is ∙ z)))
 
-    -- .. it is small, and its line fits ..
-    pub line_fits : (r.refusal < 1000) × Fits after 0 (refused_text r.refusal)
-    line_fits = (
-      omega (arith, number_is, list_refusal_small file),
-      omega (arith, ap length line_is, listing_fits file, room, ap length (listing_refused promise some).1),
-    )
+    -- .. its line fits ..
+    pub line_fits : length (refused_text refusal) ≤ length after
+    line_fits = omega (arith, ap length line_is, listing_fits file, room, ap length (listing_refused promise some).1)
 
     -- .. and is what is written.
-    pub line_written : {textAfter : List ℕ} {next : ℕ} → Put after 0 (refused_text r.refusal) textAfter next → Written file text next textAfter
-    line_written put = record {
-      size_is = put.place ∙ zero-add _ ∙ ap length line_is;
-      text_is =
-          put.wrote
-          ∙ rw (line_is, (listing_refused promise some).1)
-          (sets-eq (listing_text file) text 0 (omega (arith, listing_fits file, room)) ∙ rw (zero-add (length (listing_text file))));
+    pub line_written : {n : ℕ} {textAfter : List ℕ} → n ≡ length (refused_text refusal) → textAfter ≡ refused_text refusal ++ drop n after
+        → Written file text n textAfter
+    line_written long put = record {
+      size_is = long ∙ ap length line_is;
+      text_is = put ∙ rw (long, line_is, (listing_refused promise some).1);
     }
 
   -- Where nothing is refused, the plan's lines are.
-  pub lines_written : r.refusal ≡ 0 → Written file text r.length after
+  pub lines_written : refusal ≡ 0 → Written file text size after
   unfolding listing_text
   lines_written none =
       let same : plan_text (plan_in file) ≡ listing_text file = sym (refusing_no (list_refusal file) _ _ (sym number_is ∙ none)) in

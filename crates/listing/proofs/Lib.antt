@@ -1,4 +1,5 @@
 -- Laws of the listing.
-pub mod Answered
+mod Judged
+mod Kept
 pub mod Unique
 pub mod Promised

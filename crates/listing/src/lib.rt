@@ -3,4 +3,5 @@
 
 mod call;
 
-pub use call::{LONGEST_FILE, LONGEST_TEXT, Listed, listing};
+pub use call::{LONGEST_FILE, listing};
+pub use text::LONGEST_TEXT;

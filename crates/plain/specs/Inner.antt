@@ -1,6 +1,6 @@
 -- What the inner contracts of the plain run need: no promise rests on it.
 -- Assumes nothing.
-use Rattle.std.specs.Prelude.{ℕ, suc, ◌+◌, ◌%◌, ◌^◌, ◌≤◌, ◌≡◌, List, length, get_or}
+use Rattle.std.specs.Prelude.{ℕ, suc, ◌+◌, ◌%◌, ◌≤◌, ◌≡◌, List, length, get_or}
 use Rattle.ladder.specs.Matrix.{Pair}
 use Rattle.ladder.specs.Numbers.{bits_length}
 use Rattle.ladder.specs.Registers.{modulus}
@@ -13,7 +13,6 @@ plain_sum m old p = (get_or old p.x 0 + get_or old p.y 0) % modulus m
 -- What a step asks: d + 1 old registers that are elements.
 pub record PlainStep (m d : ℕ) (old : List ℕ) : Type 0 where
   pub d_high : d ≤ 8
-  pub m_high : m ≤ 2 ^ 63
   pub rows : length old ≡ suc d
   pub below : Elements m (suc d) old
 

@@ -2,7 +2,6 @@
 // of it.
 #![tactic(auto)]
 
-mod accepted;
 mod call;
 mod steps;
 

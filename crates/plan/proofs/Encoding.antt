@@ -3,7 +3,7 @@
 use Prim.Native.Nat.{ℕ, ◌*◌, ◌%◌, ◌^◌, ◌≤◌, ◌<◌}
 use mathlib.Core.Path.{◌≡◌, sym, ap, subst, ◌∙◌}
 use mathlib.Core.Logic.{◌≢◌, ◌⊎◌}
-use mathlib.Core.Bool.{true, false}
+use mathlib.Core.Bool.{Bool, true, false}
 use mathlib.Core.List.{List, [], ◌∷◌, ◌++◌, flatten}
 use native.Mathlib.Omega.{arith}
 use lib.ListN.{length, get_or, drop, length-drop}
@@ -19,22 +19,20 @@ use Rattle.ladder.proofs.Tests.{refusing_no}
 use Rattle.ladder.proofs.Operations.{EncodeOk, RunOk}
 use Rattle.ladder.proofs.Demand2.{decode_words}
 use Rattle.encode.specs.Promise.{EncodePromise}
-use Rattle.encode.specs.declared.call.Encoded.{Encoded}
 use Rattle.encode.proofs.Promised.{encode_plan, encode_plan_ok, encode_decodes}
 use Rattle.decode.specs.Promise.{DecodePromise}
 use Rattle.decode.proofs.Promised.{decode_accepted}
 use Rattle.checking.specs.Promise.{CheckPromise}
-use Rattle.checking.specs.declared.call.Checked.{Checked}
 use Rattle.checking.proofs.Promised.{check_accepts}
 use Rattle.checking.proofs.Equality.{lists_same}
 use Rattle.run.specs.Promise.{PlainPromise}
 use Rattle.run.specs.declared.answer.Ran.{Ran}
 use Rattle.run.proofs.Promised.{run_accepted, run_answer}
 
-module _ {d l : ℕ} {scalars start bits : List ℕ} {e : Encoded} {startAfter bitsAfter : List ℕ}
-    (promise : EncodePromise d l scalars start bits e startAfter bitsAfter) (ok : EncodeOk d l scalars start bits) where
+module _ {d l : ℕ} {scalars start bits : List ℕ} {refusal row : ℕ} {startAfter bitsAfter : List ℕ}
+    (promise : EncodePromise d l scalars start bits refusal row startAfter bitsAfter) (ok : EncodeOk d l scalars start bits) where
   abbrev plan : Plan
-  plan = plan_lent d l startAfter bitsAfter e.row
+  plan = plan_lent d l startAfter bitsAfter row
 
   -- Decode of what encode wrote refuses nothing and gives the scalars, as numbers ..
   pub decode_encoded : (values valuesAfter : List ℕ) (r : ℕ) → length values ≡ values_length d l → DecodePromise plan values r valuesAfter
@@ -80,22 +78,22 @@ module _ {d l : ℕ} {scalars start bits : List ℕ} {e : Encoded} {startAfter b
             (length-take-le k (drop (j * k) scalars) (omega (arith, length-drop (j * k) scalars))) (own_below k scalars words j))
 
   -- Check of it says yes.
-  pub check_encoded : (r : Checked) → CheckPromise plan scalars r → (r.refusal ≡ 0) × (r.yes ≡ true)
-  check_encoded r x =
+  pub check_encoded : (r : ℕ) (said : Bool) → CheckPromise plan scalars r said → (r ≡ 0) × (said ≡ true)
+  check_encoded r said x =
       let z = (check_accepts x).1 (record { plan = encode_plan_ok promise ok; scalars_long = ok.scalars_long; fit = ok.fit }) in
       (z, x.yes_is ∙ refusing_no _ false _ z ∙ sym (lists_same (answer_row plan) (scalars_in d l scalars) (encode_decodes promise ok)))
 
 -- Over what encode wrote a run refuses nothing where the modulus, the elements and the registers are right, and its answer is the
 -- combination of the elements by the scalars.
-pub run_encoded : {d l : ℕ} {scalars start bits : List ℕ} {e : Encoded} {startAfter bitsAfter : List ℕ}
-    → EncodePromise d l scalars start bits e startAfter bitsAfter → EncodeOk d l scalars start bits
-    → (m : ℕ) (elements : List ℕ) {registers : List ℕ} {r : Ran} {registers_after : List ℕ}
-    → PlainPromise (plan_lent d l startAfter bitsAfter e.row) m elements registers r registers_after
+pub run_encoded : {d l : ℕ} {scalars start bits : List ℕ} {refusal row : ℕ} {startAfter bitsAfter : List ℕ}
+    → EncodePromise d l scalars start bits refusal row startAfter bitsAfter → EncodeOk d l scalars start bits
+    → (m : ℕ) (elements : List ℕ) {registers : List ℕ} {n : ℕ} {r : Ran} {registers_after : List ℕ}
+    → PlainPromise (plan_lent d l startAfter bitsAfter row) m elements registers n r registers_after
     → length elements ≡ elements_length d → length registers ≡ registers_length d → m ≤ 2 ^ 63
     → (m ≡ 0) ⊎ ((j : ℕ) → j < length elements → get_or elements j 0 < m)
-    → (r.refusal ≡ 0) × (r.answer ≡ combination m elements (scalars_in d l scalars))
-run_encoded {d} {l} {scalars} {e = e} {startAfter} {bitsAfter} encoded eok m elements {registers} promise many room high below =
-    let ok : RunOk (plan_lent d l startAfter bitsAfter e.row) m elements registers = record {
+    → (n ≡ 0) × (r.answer ≡ combination m elements (scalars_in d l scalars))
+run_encoded {d} {l} {scalars} {row = row} {startAfter} {bitsAfter} encoded eok m elements {registers} promise many room high below =
+    let ok : RunOk (plan_lent d l startAfter bitsAfter row) m elements registers = record {
       plan = encode_plan_ok encoded eok;
       elements_long = many;
       registers_long = room;

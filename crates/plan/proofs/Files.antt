@@ -18,7 +18,7 @@ use Rattle.ladder.proofs.AcceptedFiles.{held_shape}
 use Rattle.decode.specs.Promise.{DecodePromise}
 use Rattle.decode.proofs.Unique.{decode_unique}
 use Rattle.trace.specs.Promise.{TracePromise}
-use Rattle.trace.specs.declared.call.Traced.{Traced}
+use Rattle.trace.specs.declared.steps.Traced.{Traced}
 use Rattle.trace.proofs.Unique.{trace_unique}
 use Rattle.run.specs.Promise.{RunPromise, PlainPromise, DifferencePromise}
 use Rattle.run.specs.declared.answer.Ran.{Ran}
@@ -54,34 +54,34 @@ module _ {p q : Plan} (e : SamePlan p q) (shapes : plan_shape p ≡ plan_shape q
   }
 
   -- .. of trace ..
-  trace_moved : {trace : List ℕ} {r : Traced} {traceAfter : List ℕ} → TracePromise q trace r traceAfter → TracePromise p trace r traceAfter
+  trace_moved : {trace : List ℕ} {n : ℕ} {r : Traced} {traceAfter : List ℕ} → TracePromise q trace n r traceAfter → TracePromise p trace n r traceAfter
   unfolding trace_refusal
-  trace_moved {trace} {r} x =
+  trace_moved {trace} {n} x =
       let same = sym (same_trace p q e) in
       record {
         refusal_is = x.refusal_is ∙ sym (refused_alike (λ d l. shape trace (trace_length d l)));
-        doublings_are = x.doublings_are ∙ ap (λ es. refusing r.refusal 0 (doublings es)) same;
-        additions_are = x.additions_are ∙ ap (λ es. refusing r.refusal 0 (addition_count es)) same;
-        trace_is = x.trace_is ∙ ap (λ es. refusing r.refusal trace (trace_bytes es)) same;
+        doublings_are = x.doublings_are ∙ ap (λ es. refusing n 0 (doublings es)) same;
+        additions_are = x.additions_are ∙ ap (λ es. refusing n 0 (addition_count es)) same;
+        trace_is = x.trace_is ∙ ap (λ es. refusing n trace (trace_bytes es)) same;
       }
 
   -- .. and of a run.
-  run_moved : {refusal refusal' : ℕ} {registers wanted wanted' : List ℕ} {r : Ran} {registers_after : List ℕ} → refusal ≡ refusal' → wanted ≡ wanted'
-      → RunPromise q refusal' registers wanted' r registers_after → RunPromise p refusal registers wanted r registers_after
+  run_moved : {number number' : ℕ} {registers wanted wanted' : List ℕ} {refusal : ℕ} {r : Ran} {registers_after : List ℕ} → number ≡ number' → wanted ≡ wanted'
+      → RunPromise q number' registers wanted' refusal r registers_after → RunPromise p number registers wanted refusal r registers_after
   unfolding answer_register
-  run_moved {registers = registers} {r = r} n w x =
+  run_moved {registers = registers} {refusal = refusal} n w x =
       let same = sym (same_trace p q e) in
       record {
         refusal_is = x.refusal_is ∙ sym n;
-        answer_is = x.answer_is ∙ ap₂ (λ i regs. refusing r.refusal 0 (get_or regs (pred i) 0)) (sym e.answer) (sym w);
-        doublings_are = x.doublings_are ∙ ap (λ es. refusing r.refusal 0 (doublings es)) same;
-        additions_are = x.additions_are ∙ ap (λ es. refusing r.refusal 0 (addition_count es)) same;
-        registers_are = x.registers_are ∙ ap (refusing r.refusal registers) (sym w);
+        answer_is = x.answer_is ∙ ap₂ (λ i regs. refusing refusal 0 (get_or regs (pred i) 0)) (sym e.answer) (sym w);
+        doublings_are = x.doublings_are ∙ ap (λ es. refusing refusal 0 (doublings es)) same;
+        additions_are = x.additions_are ∙ ap (λ es. refusing refusal 0 (addition_count es)) same;
+        registers_are = x.registers_are ∙ ap (refusing refusal registers) (sym w);
       }
 
 -- ---- two files
 
-module _ {f g : List ℕ} {u v : Unpacked} (answered : UnpackPromise f u) (answered' : UnpackPromise g v) (none : u.refusal ≡ 0) (same : u ≡ v)
+module _ {f g : List ℕ} {u v : Unpacked} {m n : ℕ} (answered : UnpackPromise f m u) (answered' : UnpackPromise g n v) (none : m ≡ 0) (alike : m ≡ n) (same : u ≡ v)
     {place place' partPlace partPlace' : ℕ × ℕ} {part part' : List ℕ}
     (body : BodyPromise f place part partPlace) (body' : BodyPromise g place' part' partPlace')
     (starts : take u.d part ≡ take u.d part')
@@ -90,7 +90,7 @@ module _ {f g : List ℕ} {u v : Unpacked} (answered : UnpackPromise f u) (answe
   asked = (unpack_accepts answered).0 none
 
   asked' : UnpackOk g
-  asked' = (unpack_accepts answered').0 (sym (ap (λ w. w.refusal) same) ∙ none)
+  asked' = (unpack_accepts answered').0 (sym alike ∙ none)
 
   -- They hold the same plan ..
   pub files_plan : SamePlan (plan_in f) (plan_in g)
@@ -125,23 +125,23 @@ module _ {f g : List ℕ} {u v : Unpacked} (answered : UnpackPromise f u) (answe
   files_decode x y = decode_unique x (decode_moved files_plan shapes reads y)
 
   -- .. trace does ..
-  pub files_trace : {trace : List ℕ} {r s : Traced} {traceAfter traceOther : List ℕ} → TracePromise (plan_in f) trace r traceAfter
-      → TracePromise (plan_in g) trace s traceOther → (r ≡ s) × (traceAfter ≡ traceOther)
+  pub files_trace : {trace : List ℕ} {j k : ℕ} {r s : Traced} {traceAfter traceOther : List ℕ} → TracePromise (plan_in f) trace j r traceAfter
+      → TracePromise (plan_in g) trace k s traceOther → (j ≡ k) × (r ≡ s) × (traceAfter ≡ traceOther)
   files_trace x y = trace_unique x (trace_moved files_plan shapes reads y)
 
   -- .. the plain run does ..
-  pub files_plain : (m : ℕ) (elements : List ℕ) {registers : List ℕ} {r s : Ran} {registers_after registersOther : List ℕ}
-      → PlainPromise (plan_in f) m elements registers r registers_after → PlainPromise (plan_in g) m elements registers s registersOther
-      → (r ≡ s) × (registers_after ≡ registersOther)
+  pub files_plain : (m : ℕ) (elements : List ℕ) {registers : List ℕ} {j k : ℕ} {r s : Ran} {registers_after registersOther : List ℕ}
+      → PlainPromise (plan_in f) m elements registers j r registers_after → PlainPromise (plan_in g) m elements registers k s registersOther
+      → (j ≡ k) × (r ≡ s) × (registers_after ≡ registersOther)
   files_plain m elements {registers} x y =
       plain_unique m elements x
       (run_moved files_plan shapes reads (run_refused_alike files_plan shapes reads m elements registers)
       (ap (map (combination m elements)) (last_same (plan_in f) (plan_in g) files_plan)) y)
 
   -- .. and the difference run does.
-  pub files_difference : (m : ℕ) (elements : List ℕ) {registers : List ℕ} {r s : Ran} {registers_after registersOther : List ℕ}
-      → DifferencePromise (plan_in f) m elements registers r registers_after → DifferencePromise (plan_in g) m elements registers s registersOther
-      → (r ≡ s) × (registers_after ≡ registersOther)
+  pub files_difference : (m : ℕ) (elements : List ℕ) {registers : List ℕ} {j k : ℕ} {r s : Ran} {registers_after registersOther : List ℕ}
+      → DifferencePromise (plan_in f) m elements registers j r registers_after → DifferencePromise (plan_in g) m elements registers k s registersOther
+      → (j ≡ k) × (r ≡ s) × (registers_after ≡ registersOther)
   files_difference m elements {registers} x y =
       difference_unique m elements x
       (run_moved files_plan shapes reads (run_refused_alike files_plan shapes reads m elements registers)

@@ -12,17 +12,17 @@ use Rattle.ladder.proofs.Demand2.{decode_words}
 use Rattle.decode.specs.Promise.{DecodePromise}
 use Rattle.decode.proofs.Promised.{decode_accepted}
 use Rattle.trace.specs.Promise.{TracePromise}
-use Rattle.trace.specs.declared.call.Traced.{Traced}
+use Rattle.trace.specs.declared.steps.Traced.{Traced}
 use Rattle.trace.proofs.Promised.{trace_counts}
 use Rattle.run.specs.Promise.{PlainPromise}
 use Rattle.run.specs.declared.answer.Ran.{Ran}
 use Rattle.run.proofs.Promised.{run_accepted, run_answer, run_counts}
 
 -- Of the plain run; of the difference run by `difference_is_plain`.
-module _ (m : ℕ) (elements : List ℕ) {p : Plan} {registers : List ℕ} {r : Ran} {registers_after : List ℕ}
-    (promise : PlainPromise p m elements registers r registers_after) (ok : RunOk p m elements registers) where
+module _ (m : ℕ) (elements : List ℕ) {p : Plan} {registers : List ℕ} {refusal : ℕ} {r : Ran} {registers_after : List ℕ}
+    (promise : PlainPromise p m elements registers refusal r registers_after) (ok : RunOk p m elements registers) where
   -- The counts are those that trace answers ..
-  pub run_traced : {trace : List ℕ} {t : Traced} {traceAfter : List ℕ} → TracePromise p trace t traceAfter
+  pub run_traced : {trace : List ℕ} {n : ℕ} {t : Traced} {traceAfter : List ℕ} → TracePromise p trace n t traceAfter
       → length trace ≡ trace_length p.d p.l → (r.doublings ≡ t.doublings) × (r.additions ≡ t.additions)
   run_traced traced long =
       let counts = run_counts promise (run_accepted m elements promise ok) in

@@ -29,8 +29,8 @@ module _ {p : Plan} {file : List ℕ} {r : ℕ} {fileAfter : List ℕ} (packed :
   packed_accepted = subst UnpackOk (sym (pack_accepted packed ok).1) ((unpack_none (file_of p)).0 (unpack_packed p ok.plan.plan []))
 
   -- .. and answers the plan's numbers.
-  pub unpack_of_packed : {u : Unpacked} → UnpackPromise fileAfter u
-      → (u.refusal ≡ 0) × (u.d ≡ p.d) × (u.l ≡ p.l) × (u.row ≡ p.answer)
+  pub unpack_of_packed : {n : ℕ} {u : Unpacked} → UnpackPromise fileAfter n u
+      → (n ≡ 0) × (u.d ≡ p.d) × (u.l ≡ p.l) × (u.row ≡ p.answer)
   unpack_of_packed promise =
       let t = unpack_accepted promise packed_accepted in
       let e = (pack_accepted packed ok).1 in

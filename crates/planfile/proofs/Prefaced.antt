@@ -13,17 +13,19 @@ use Rattle.planfile.specs.Promise.{UnpackPromise, BodyPromise}
 use Rattle.planfile.proofs.Unique.{same-unpacked}
 use Rattle.planfile.proofs.Promised.{unpack_accepts, unpack_accepted, body_accepted}
 
-module _ (pre : List ℕ) {file : List ℕ} {u : Unpacked} (promise : UnpackPromise file u) (none : u.refusal ≡ 0) where
+module _ (pre : List ℕ) {file : List ℕ} {r : ℕ} {u : Unpacked} (promise : UnpackPromise file r u) (none : r ≡ 0) where
   asked : UnpackOk file
   asked = (unpack_accepts promise).0 none
 
-  -- Unpack's four numbers are the same ..
-  pub unpack_prefaced : {v : Unpacked} → UnpackPromise (pre ++ file) v → v ≡ u
-  unpack_prefaced {v} other =
+  -- Unpack's refusal and its numbers are the same ..
+  pub unpack_prefaced : {s : ℕ} {v : Unpacked} → UnpackPromise (pre ++ file) s v → (s ≡ r) × (v ≡ u)
+  unpack_prefaced {v = v} other =
       let here = unpack_accepted promise asked in
-      let there = unpack_accepted other (accepted_after pre file asked) in
-      same-unpacked v u (there.0 ∙ sym here.0) (there.1 ∙ d_after pre file asked.twelve ∙ sym here.1)
-      (there.2 ∙ l_after pre file asked.twelve ∙ sym here.2) (there.3 ∙ answer_after pre file asked.twelve ∙ sym here.3)
+      let there = unpack_accepted other (accepted_after pre file asked) in (
+        there.0 ∙ sym here.0,
+        same-unpacked v u (there.1 ∙ d_after pre file asked.twelve ∙ sym here.1) (there.2 ∙ l_after pre file asked.twelve ∙ sym here.2)
+            (there.3 ∙ answer_after pre file asked.twelve ∙ sym here.3),
+      )
 
   module _ {place place' partPlace partPlace' : ℕ × ℕ} {part part' : List ℕ}
       (body : BodyPromise file place part partPlace) (other : BodyPromise (pre ++ file) place' part' partPlace') where

@@ -35,19 +35,19 @@ module _ {p : Plan} {file : List ℕ} {r : ℕ} {fileAfter : List ℕ} (promise 
 
 -- ---- unpack
 
-module _ {file : List ℕ} {u : Unpacked} (promise : UnpackPromise file u) where
+module _ {file : List ℕ} {r : ℕ} {u : Unpacked} (promise : UnpackPromise file r u) where
   -- Unpack's refusal is 0 exactly where the bytes are what it asks ..
-  pub unpack_accepts : u.refusal ≡ 0 ↔ UnpackOk file
+  pub unpack_accepts : r ≡ 0 ↔ UnpackOk file
   unpack_accepts = subst (λ n. n ≡ 0 ↔ UnpackOk file) (sym promise.refusal_is) (unpack_none file)
 
   -- .. then the refusal is 0 and the numbers are the trailer's ..
-  pub unpack_accepted : UnpackOk file → (u.refusal ≡ 0) × (u.d ≡ d_in file) × (u.l ≡ l_in file) × (u.row ≡ answer_in file)
+  pub unpack_accepted : UnpackOk file → (r ≡ 0) × (u.d ≡ d_in file) × (u.l ≡ l_in file) × (u.row ≡ answer_in file)
   unpack_accepted ok =
       let none = unpack_accepts.1 ok in
       (none, promise.d_is ∙ refusing_no _ _ _ none, promise.l_is ∙ refusing_no _ _ _ none, promise.row_is ∙ refusing_no _ _ _ none)
 
   -- .. and on refusal they are 0.
-  pub unpack_refused : u.refusal ≢ 0 → (u.d ≡ 0) × (u.l ≡ 0) × (u.row ≡ 0)
+  pub unpack_refused : r ≢ 0 → (u.d ≡ 0) × (u.l ≡ 0) × (u.row ≡ 0)
   unpack_refused some =
       (promise.d_is ∙ refusing_yes _ _ _ some, promise.l_is ∙ refusing_yes _ _ _ some, promise.row_is ∙ refusing_yes _ _ _ some)
 
@@ -68,9 +68,9 @@ module _ {file : List ℕ} {place : ℕ × ℕ} {part : List ℕ} {partPlace : �
   pub body_two_bytes : UnpackOk file → 2 ≤ length part
   body_two_bytes ok = omega (arith, ap length (body_accepted ok).0, body_two file ok)
 
-  module _ {u : Unpacked} (answered : UnpackPromise file u) where
+  module _ {r : ℕ} {u : Unpacked} (answered : UnpackPromise file r u) where
     -- .. where unpack refuses it is the empty part at their start ..
-    pub body_refused : u.refusal ≢ 0 → (part ≡ []) × (partPlace.0 ≡ place.0) × (partPlace.1 ≡ place.1)
+    pub body_refused : r ≢ 0 → (part ≡ []) × (partPlace.0 ≡ place.0) × (partPlace.1 ≡ place.1)
     body_refused some =
         let refused : unpack_refusal file ≢ 0 = λ z. some (answered.refusal_is ∙ z) in (
           promise.bytes_are ∙ refusing_yes _ _ _ refused,
@@ -86,7 +86,7 @@ module _ {file : List ℕ} {place : ℕ × ℕ} {part : List ℕ} {partPlace : �
         rw (t.1, t.2, t.3, (body_accepted ok).0)
 
     -- .. and so it is empty exactly where unpack refuses.
-    pub body_empty : part ≡ [] ↔ u.refusal ≢ 0
+    pub body_empty : part ≡ [] ↔ r ≢ 0
     body_empty = (
       λ e none. omega (arith, body_two_bytes ((unpack_accepts answered).0 none), ap length e),
       λ some. (body_refused some).0,

@@ -12,12 +12,16 @@ pub record PackPromise (p : Plan) (file : List ℕ) (refusal : ℕ) (fileAfter :
   pub refusal_is : refusal ≡ pack_refusal p file
   pub file_is : fileAfter ≡ refusing refusal file (file_of p)
 
+-- What stands for unpack's answer where it refuses.
+abbrev pub no_numbers : Unpacked
+no_numbers = record { d = 0; l = 0; row = 0 }
+
 -- Unpack, of any bytes: what their trailer says; on refusal zeros. Of that file: refusal 0, d 2, l 7, row 3.
-pub record UnpackPromise (file : List ℕ) (r : Unpacked) : Type 0 where
-  pub refusal_is : r.refusal ≡ unpack_refusal file
-  pub d_is : r.d ≡ refusing r.refusal 0 (d_in file)
-  pub l_is : r.l ≡ refusing r.refusal 0 (l_in file)
-  pub row_is : r.row ≡ refusing r.refusal 0 (answer_in file)
+pub record UnpackPromise (file : List ℕ) (refusal : ℕ) (r : Unpacked) : Type 0 where
+  pub refusal_is : refusal ≡ unpack_refusal file
+  pub d_is : r.d ≡ refusing refusal 0 (d_in file)
+  pub l_is : r.l ≡ refusing refusal 0 (l_in file)
+  pub row_is : r.row ≡ refusing refusal 0 (answer_in file)
 
 -- Body, of any bytes that stand in memory from a block's offset on: the part of them that is the body, by its block, its offset and its
 -- bytes, and so its length; where unpack refuses, the empty part at their start. Of that file: 01 02 72 D8, at its own place.

@@ -1,4 +1,4 @@
-// The plan file: pack, unpack and the body. The public calls are those below; the rest is an inside of the library.
+// The plan file: pack, unpack, the body, and the plan that a file holds. These are public; the rest is an inside of the library.
 #![tactic(auto)]
 
 mod packing;
@@ -9,3 +9,4 @@ mod whole;
 pub use packing::pack;
 pub use refuse::TRAILER_SIZE;
 pub use unpacking::{Unpacked, body, unpack};
+pub use whole::held_plan;

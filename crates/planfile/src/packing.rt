@@ -1,14 +1,16 @@
 // The public call `pack`: a plan written as a file, with nothing before its body.
 ghost use Rattle.std.specs.Prelude.{◌≡◌, ◌-◌, ◌%◌, ◌^◌, ◌<◌};
-ghost use Rattle.ladder.specs.Plan.{plan_lent};
 ghost use Rattle.ladder.specs.PlanFile.{file_of};
-ghost use Rattle.planfile.specs.Inner.{Packable};
+ghost use Rattle.ladder.specs.Refusals.{pack_refusal};
+ghost use Rattle.loose.specs.PlanOf.{plan_of};
+ghost use Rattle.refusal.specs.Answers.{refusal_of};
 ghost use Rattle.planfile.specs.Promise.{PackPromise};
 
 use crate::trailer::trailer_of;
-use judge::{Beside, loose_refusal};
-use lent::copy;
-use refuse::OK;
+use judge::loose_refusal;
+use loose::Plan;
+use refusal::Refusal;
+use refuse::{file_length, shape};
 
 // A byte without its lowest n bits.
 fn cleared(byte: u8, n: usize) -> u8
@@ -19,28 +21,35 @@ fn cleared(byte: u8, n: usize) -> u8
 }
 
 // Start order, bits with 0 for filling, and the trailer.
-fn write_file(d: usize, l: usize, start: &[u8], bits: &[u8], row: usize, file: &mut [u8])
-    requires { Packable d l start.now bits.now row file.old }
-    ensures { file.new ≡ file_of (plan_lent d l start.now bits.now row) }
+#[tactic(auto, using(crate::proofs::Laid::sizes))]
+fn write_file(plan: &Plan, file: &mut [u8])
+    requires { 0 ≡ pack_refusal (plan_of plan.now) file.old }
+    ensures { file.new ≡ file_of (plan_of plan.now) }
 {
-    let body = d + bits.len();
-    let filling = 8 * bits.len() - l * d;
-    copy(start, file, 0);
-    copy(bits, file, d);
-    file[body - 1] = cleared(file[body - 1], filling);
-    let trailer = trailer_of(d as u8, row as u8, l, body);
-    copy(&trailer, file, body);
+    let d = plan.start.len();
+    let bytes = plan.bits.len();
+    let filling = 8 * bytes - plan.l as usize * d;
+    let (start, rest) = file.split_at_mut(d);
+    let (bits, trailer) = rest.split_at_mut(bytes);
+    start.copy_from_slice(plan.start);
+    bits.copy_from_slice(plan.bits);
+    bits[bytes - 1] = cleared(bits[bytes - 1], filling);
+    trailer.copy_from_slice(&trailer_of(plan, d + bytes));
 }
 
-// Writes a plan into a file of exactly d + ceil(l * d / 8) + 12 bytes. Answers the refusal (1, 2, 3, 5, 6); where there is one, the file is
-// as it came.
-pub fn pack(d: u64, l: u64, start: &[u8], bits: &[u8], row: u64, file: &mut [u8]) -> u64
-    ensures { PackPromise (plan_lent d l start.now bits.now row) file.old result file.new }
+// The refusal of pack: 1, 2, 3, 5, 6.
+fn pack_refusal(plan: &Plan, file: &[u8]) -> Result<(), Refusal>
+    ensures { refusal_of result ≡ pack_refusal (plan_of plan.now) file.now }
 {
-    let refusal = loose_refusal(d, l, start, bits, row, Beside::File(file.len()));
-    if refusal != OK {
-        return refusal;
-    }
-    write_file(d as usize, l as usize, start, bits, row as usize, file);
-    refusal
+    loose_refusal(plan, |d, l| shape(file.len(), file_length(d, l)))
+}
+
+// Writes a plan into a file of exactly d + ceil(l * d / 8) + 12 bytes. Where it refuses (1, 2, 3, 5, 6), the file is as it came.
+#[tactic(auto, using(crate::proofs::Kept::pack_refused, crate::proofs::Kept::pack_accepted))]
+pub fn pack(plan: &Plan, file: &mut [u8]) -> Result<(), Refusal>
+    ensures { PackPromise (plan_of plan.now) file.old (refusal_of result) file.new }
+{
+    pack_refusal(plan, file)?;
+    write_file(plan, file);
+    Ok(())
 }

@@ -6,12 +6,5 @@ ghost use Rattle.ladder.specs.Lists.{all};
 pub fn all_below(m: u64, s: &[u64]) -> bool
     ensures { result ≡ all (λ e. ltb e m) s.now }
 {
-    let mut i: usize = 0;
-    while i < s.len() {
-        if m <= s[i] {
-            return false;
-        }
-        i += 1;
-    }
-    true
+    s.iter().all(|e| *e < m)
 }

@@ -1,5 +1,5 @@
-// The table of refusals: each number by name, the length of each buffer, and a test for each number that needs no plan and no file. An
-// inside, for the crates of this repository. A refusal is a number, 0 where nothing is refused; the tests take anything.
+// When a call refuses: the length of each buffer, and a function for each number of the table that needs no plan and no file. An inside, for
+// the crates of this repository. The functions take anything, but the lengths ask that d and l were judged before.
 #![tactic(auto)]
 
 mod elements;
@@ -12,7 +12,4 @@ pub use lengths::{
     TRAILER_SIZE, bits_length, file_length, scalars_length, trace_length, values_length,
 };
 pub use orders::arrangement;
-pub use table::{
-    BIG, OK, ORDER, SCALAR, SHAPE, TRAILER, answer, dim, element, first, order, range, shape,
-    too_large,
-};
+pub use table::{answer, dim, element, order, range, shape, too_large, unless};

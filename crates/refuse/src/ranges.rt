@@ -11,14 +11,9 @@ pub const MOST_STEPS: u64 = 576;
 // A modulus is at most 2^63; 0 stands for 2^64.
 pub const LARGEST_MODULUS: u64 = 9223372036854775808;
 
+#[tactic(auto, unfolding(ladder::specs::Refusals::within))]
 pub fn within(lo: u64, hi: u64, n: u64) -> bool
     ensures { result ≡ within lo hi n }
 {
-    if n < lo {
-        return false;
-    }
-    if hi < n {
-        return false;
-    }
-    true
+    lo <= n && n <= hi
 }

@@ -1,108 +1,77 @@
-// A function for each number of the table that more than one call can give, and the first refusal that applies. Number 4 stands with the
-// scalars, a walk state's 5 and a step's 3 with the walk, 9 with the plan file, 10 with the listing.
+// A function for each number of the table that more than one call can give. Number 4 stands with the scalars, a walk state's 5 and a step's 3
+// with the walk, 9 with the plan file, 10 with the listing.
 ghost use Rattle.std.specs.Prelude.{◌≡◌, eqb};
-ghost use Rattle.ladder.specs.Refusals.{◌then◌, unless, within, SHAPE as SHAPE_NUMBER, dim, len, order, answer, too_large, element};
+ghost use Rattle.ladder.specs.Refusals.{◌then◌, unless, SHAPE, dim, len, order, answer, too_large, element};
+ghost use Rattle.refusal.specs.Answers.{number, refusal_of};
 
 use crate::elements::all_below;
 use crate::orders::arrangement;
 use crate::ranges::{LARGEST_MODULUS, MOST_COLUMNS, MOST_STEPS, within};
+use refusal::Refusal;
 
-pub const OK: u64 = 0;
-
-pub const DIM: u64 = 1;
-
-pub const LENGTH: u64 = 2;
-
-pub const SHAPE: u64 = 3;
-
-pub const SCALAR: u64 = 4;
-
-pub const ORDER: u64 = 5;
-
-pub const ROW: u64 = 6;
-
-pub const MODULUS: u64 = 7;
-
-pub const ELEMENT: u64 = 8;
-
-pub const TRAILER: u64 = 9;
-
-pub const BIG: u64 = 10;
-
-// The first of two refusals that applies.
-pub fn first(a: u64, b: u64) -> u64
-    ensures { result ≡ a then b }
+// Refuses unless a test holds.
+#[tactic(auto, unfolding(ladder::specs::Refusals::unless))]
+pub fn unless(test: bool, refusal: Refusal) -> Result<(), Refusal>
+    ensures { refusal_of result ≡ unless test (number refusal) }
 {
-    if a == OK { b } else { a }
+    if test { Ok(()) } else { Err(refusal) }
 }
 
-// Refusal n where x lies outside lo..hi.
-fn outside(x: u64, lo: u64, hi: u64, n: u64) -> u64
-    ensures { result ≡ unless (within lo hi x) n }
+#[tactic(auto, unfolding(ladder::specs::Refusals::dim))]
+pub fn dim(d: u64) -> Result<(), Refusal>
+    ensures { refusal_of result ≡ dim d }
 {
-    if within(lo, hi, x) { OK } else { n }
+    unless(within(1, MOST_COLUMNS, d), Refusal::Dim)
 }
 
-pub fn dim(d: u64) -> u64
-    ensures { result ≡ dim d }
+#[tactic(auto, unfolding(ladder::specs::Refusals::len))]
+fn len(l: u64) -> Result<(), Refusal>
+    ensures { refusal_of result ≡ len l }
 {
-    outside(d, 1, MOST_COLUMNS, DIM)
-}
-
-fn len(l: u64) -> u64
-    ensures { result ≡ len l }
-{
-    outside(l, 1, MOST_STEPS, LENGTH)
+    unless(within(1, MOST_STEPS, l), Refusal::Length)
 }
 
 // d, then l.
-pub fn range(d: u64, l: u64) -> u64
-    ensures { result ≡ dim d then len l }
+#[tactic(auto, using(refusal::proofs::Laws::then_refused, refusal::proofs::Laws::then_passed))]
+pub fn range(d: u64, l: u64) -> Result<(), Refusal>
+    ensures { refusal_of result ≡ dim d then len l }
 {
-    let dimension = dim(d);
-    let length = len(l);
-    first(dimension, length)
+    dim(d)?;
+    len(l)
 }
 
 // A buffer of `have` elements that must have `want`.
-pub fn shape(have: usize, want: u64) -> u64
-    ensures { result ≡ unless (eqb have want) SHAPE_NUMBER }
+pub fn shape(have: usize, want: u64) -> Result<(), Refusal>
+    ensures { refusal_of result ≡ unless (eqb have want) SHAPE }
 {
-    if have as u64 == want { OK } else { SHAPE }
+    unless(have as u64 == want, Refusal::Shape)
 }
 
-pub fn order(d: u64, start: &[u8]) -> u64
-    ensures { result ≡ order d start.now }
+#[tactic(auto, unfolding(ladder::specs::Refusals::order))]
+pub fn order(d: u64, start: &[u8]) -> Result<(), Refusal>
+    ensures { refusal_of result ≡ order d start.now }
 {
-    if arrangement(d, start) { OK } else { ORDER }
+    unless(arrangement(d, start), Refusal::Order)
 }
 
 // Row 1..d+1, without the sum that wraps at the largest d.
-pub fn answer(d: u64, row: u64) -> u64
-    ensures { result ≡ answer d row }
+pub fn answer(d: u64, row: u64) -> Result<(), Refusal>
+    ensures { refusal_of result ≡ answer d row }
 {
-    if row == 0 {
-        return ROW;
-    }
-    if d < row - 1 {
-        return ROW;
-    }
-    OK
+    unless(row != 0 && row - 1 <= d, Refusal::Row)
 }
 
 // A modulus above 2^63.
-pub fn too_large(m: u64) -> u64
-    ensures { result ≡ too_large m }
+#[tactic(auto, unfolding(ladder::specs::Refusals::too_large))]
+pub fn too_large(m: u64) -> Result<(), Refusal>
+    ensures { refusal_of result ≡ too_large m }
 {
-    if m <= LARGEST_MODULUS { OK } else { MODULUS }
+    unless(m <= LARGEST_MODULUS, Refusal::Modulus)
 }
 
 // An element not below a modulus other than 0.
-pub fn element(m: u64, elements: &[u64]) -> u64
-    ensures { result ≡ element m elements.now }
+pub fn element(m: u64, elements: &[u64]) -> Result<(), Refusal>
+    ensures { refusal_of result ≡ element m elements.now }
 {
-    if m == 0 {
-        return OK;
-    }
-    if all_below(m, elements) { OK } else { ELEMENT }
+    unless(m == 0 || all_below(m, elements), Refusal::Element)
 }

@@ -1,7 +1,7 @@
--- Sums by a modulus: a subtraction reduces them.
+-- Sums and negatives by a modulus: a subtraction reduces a sum, and a wrapped difference is a negative.
 -- Assumes nothing.
 use Rattle.std.proofs.Common.{◌≡◌, ℕ, zero, suc, ◌+◌, ◌-◌, ◌*◌, ◌/◌, ◌%◌, ◌^◌, ◌<◌, ◌≤◌, ◌≢◌, sym, refl, ap, ◌∙◌, mod-lt, mod-eq_of_lt, one-mul, mul-zero, zero-mul, arith}
-use native.Mathlib.Nat.{add-mul-mod_self_right}
+use native.Mathlib.Nat.{add-mul-mod_self_right, mod_self}
 use native.Mathlib.Decide.{dec_lt}
 use Rattle.ladder.specs.Registers.{modulus}
 
@@ -31,22 +31,13 @@ element_kept m n h = mod-eq_of_lt h
 
 -- ---- sums
 
--- What comes back is 0 or the modulus.
-pub back_fits : (m t : ℕ) → m ≤ 2 ^ 63 → t < 2 ^ 64 → t / 2 ^ 63 * m < 2 ^ 64
-back_fits m t h f = go (t / 2 ^ 63) (omega arith)
-  where
-    go : (q : ℕ) → q < 2 → q * m < 2 ^ 64
-    go zero l = omega (arith, zero-mul m)
-    go (suc zero) l = omega (arith, one-mul m)
-    go (suc (suc q)) l = absurd (omega arith)
-
 -- t is the wrapped a + b - m: its highest bit is 1 exactly where a + b is less than m, and then m comes back.
-pub sum_reduced : (m a b t r : ℕ) → m ≤ 2 ^ 63 → a < modulus m → b < modulus m → t < 2 ^ 64
+sum_reduced_by : (m a b t r : ℕ) → m ≤ 2 ^ 63 → a < modulus m → b < modulus m → t < 2 ^ 64
     → (t + m) % 2 ^ 64 ≡ (a + b) % 2 ^ 64 → r ≡ (t + t / 2 ^ 63 * m) % 2 ^ 64 → r ≡ (a + b) % modulus m
-sum_reduced zero a b t r h k l f w o =
+sum_reduced_by zero a b t r h k l f w o =
     let M = modulus_zero zero refl in
     rw M (omega (arith, mul-zero (t / 2 ^ 63)))
-sum_reduced (suc m) a b t r h k l f w o = go (dec_lt (a + b) (suc m))
+sum_reduced_by (suc m) a b t r h k l f w o = go (dec_lt (a + b) (suc m))
   where
     M : modulus (suc m) ≡ suc m
     M = modulus_some (suc m) (λ z. omega arith)
@@ -65,3 +56,25 @@ sum_reduced (suc m) a b t r h k l f w o = go (dec_lt (a + b) (suc m))
         let whole : a + b - suc m + 1 * modulus (suc m) ≡ a + b = omega (arith, M) in
         is ∙ sym (element_kept (suc m) (a + b - suc m) rest) ∙ sym (add-mul-mod_self_right (a + b - suc m) 1 (modulus (suc m)))
         ∙ ap (λ n. n % modulus (suc m)) whole
+
+pub sum_reduced : (m a b t r : ℕ) → m ≤ 2 ^ 63 → a < modulus m → b < modulus m → t ≡ ((a + b) % 2 ^ 64 + (2 ^ 64 - m)) % 2 ^ 64
+    → r ≡ (t + t / 2 ^ 63 * m) % 2 ^ 64 → r ≡ (a + b) % modulus m
+sum_reduced m a b t r h k l w o = sum_reduced_by m a b t r h k l (omega arith) (omega arith) o
+
+-- ---- negatives
+
+pub negative_zero : (m e : ℕ) → e ≡ 0 → 0 ≡ (modulus m - e) % modulus m
+negative_zero m e z =
+    let all : modulus m - e ≡ modulus m = omega arith in
+    sym (ap (λ n. n % modulus m) all ∙ mod_self (modulus m))
+
+-- The wrapped difference from m, which is 0 for 2^64.
+pub negative_some : (m e : ℕ) → m ≤ 2 ^ 63 → e ≢ 0 → e < modulus m → (m + (2 ^ 64 - e)) % 2 ^ 64 ≡ (modulus m - e) % modulus m
+negative_some zero e h n l =
+    let M = modulus_zero zero refl in
+    let is : (zero + (2 ^ 64 - e)) % 2 ^ 64 ≡ modulus zero - e = omega arith in
+    is ∙ sym (element_kept zero (modulus zero - e) (omega arith))
+negative_some (suc m) e h n l =
+    let M = modulus_some (suc m) (λ z. omega arith) in
+    let is : (suc m + (2 ^ 64 - e)) % 2 ^ 64 ≡ modulus (suc m) - e = omega arith in
+    is ∙ sym (element_kept (suc m) (modulus (suc m) - e) (omega arith))

@@ -1,5 +1,4 @@
 -- Laws that the runs share.
 pub mod ByModulus
-pub mod Judged
 pub mod Beginning
 pub mod Ran

@@ -2,12 +2,12 @@
 // repository: most of its functions ask that what they get was judged before.
 #![tactic(auto)]
 
-mod answer;
+mod judging;
 mod modular;
-mod refusal;
+mod runs;
 mod start;
+mod words;
 
-pub use answer::{finish, refused};
-pub use modular::add;
-pub use refusal::run_refusal;
-pub use start::start_registers;
+pub use modular::Modulus;
+pub use runs::run_by_steps;
+pub use words::Registers;

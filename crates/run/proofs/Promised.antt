@@ -19,10 +19,10 @@ use Rattle.run.proofs.Unique.{plain_unique}
 
 -- ---- any run
 
-module _ {p : Plan} {refusal : ℕ} {registers wanted : List ℕ} {r : Ran} {registers_after : List ℕ}
-    (promise : RunPromise p refusal registers wanted r registers_after) where
+module _ {p : Plan} {number : ℕ} {registers wanted : List ℕ} {refusal : ℕ} {r : Ran} {registers_after : List ℕ}
+    (promise : RunPromise p number registers wanted refusal r registers_after) where
   -- On refusal all answers are 0 and the registers are as they came.
-  pub run_refused : r.refusal ≢ 0 → (r.answer ≡ 0) × (r.doublings ≡ 0) × (r.additions ≡ 0) × (registers_after ≡ registers)
+  pub run_refused : refusal ≢ 0 → (r.answer ≡ 0) × (r.doublings ≡ 0) × (r.additions ≡ 0) × (registers_after ≡ registers)
   run_refused some = (
     promise.answer_is ∙ refusing_yes _ _ _ some,
     promise.doublings_are ∙ refusing_yes _ _ _ some,
@@ -30,7 +30,7 @@ module _ {p : Plan} {refusal : ℕ} {registers wanted : List ℕ} {r : Ran} {reg
     promise.registers_are ∙ refusing_yes _ _ _ some,
   )
 
-  module _ (none : r.refusal ≡ 0) where
+  module _ (none : refusal ≡ 0) where
     -- Else the registers are those of the run's rule ..
     pub run_registers : registers_after ≡ wanted
     run_registers = promise.registers_are ∙ refusing_no _ _ _ none
@@ -45,15 +45,15 @@ module _ {p : Plan} {refusal : ℕ} {registers wanted : List ℕ} {r : Ran} {reg
         (promise.doublings_are ∙ refusing_no _ _ _ none ∙ trace_doublings p, promise.additions_are ∙ refusing_no _ _ _ none ∙ trace_additions p)
 
   -- End registers that are the same where nothing is refused make the same promise.
-  pub run_by : {others : List ℕ} → (refusal ≡ 0 → wanted ≡ others) → RunPromise p refusal registers others r registers_after
+  pub run_by : {others : List ℕ} → (number ≡ 0 → wanted ≡ others) → RunPromise p number registers others refusal r registers_after
   run_by same =
-      let here : r.refusal ≡ 0 → wanted ≡ _ = λ z. same (sym promise.refusal_is ∙ z) in
+      let here : refusal ≡ 0 → wanted ≡ _ = λ z. same (sym promise.refusal_is ∙ z) in
       record {
         refusal_is = promise.refusal_is;
-        answer_is = promise.answer_is ∙ refusing_accepted r.refusal 0 _ _ (λ z. ap (answer_register p) (here z));
+        answer_is = promise.answer_is ∙ refusing_accepted refusal 0 _ _ (λ z. ap (answer_register p) (here z));
         doublings_are = promise.doublings_are;
         additions_are = promise.additions_are;
-        registers_are = promise.registers_are ∙ refusing_accepted r.refusal registers _ _ here;
+        registers_are = promise.registers_are ∙ refusing_accepted refusal registers _ _ here;
       }
 
 -- ---- the two runs are one
@@ -68,25 +68,25 @@ same_registers p m elements registers words e =
 
 module _ (m : ℕ) (elements : List ℕ) {p : Plan} {registers : List ℕ} (words : (j : ℕ) → get_or elements j 0 < 2 ^ 64) where
   -- So what the difference run promises the plain run promises ..
-  pub difference_is_plain : {r : Ran} {registers_after : List ℕ} → DifferencePromise p m elements registers r registers_after
-      → PlainPromise p m elements registers r registers_after
+  pub difference_is_plain : {refusal : ℕ} {r : Ran} {registers_after : List ℕ} → DifferencePromise p m elements registers refusal r registers_after
+      → PlainPromise p m elements registers refusal r registers_after
   difference_is_plain x = run_by x (same_registers p m elements registers words)
 
   -- .. and on every input, refused or not, the two give the same answers and leave the same registers.
-  pub runs_same : {r s : Ran} {registers_after registersOther : List ℕ} → PlainPromise p m elements registers r registers_after
-      → DifferencePromise p m elements registers s registersOther → (r ≡ s) × (registers_after ≡ registersOther)
+  pub runs_same : {j k : ℕ} {r s : Ran} {registers_after registersOther : List ℕ} → PlainPromise p m elements registers j r registers_after
+      → DifferencePromise p m elements registers k s registersOther → (j ≡ k) × (r ≡ s) × (registers_after ≡ registersOther)
   runs_same x y = plain_unique m elements x (difference_is_plain y)
 
 -- ---- the plain run, and by `difference_is_plain` the difference run
 
-module _ (m : ℕ) (elements : List ℕ) {p : Plan} {registers : List ℕ} {r : Ran} {registers_after : List ℕ}
-    (promise : PlainPromise p m elements registers r registers_after) where
+module _ (m : ℕ) (elements : List ℕ) {p : Plan} {registers : List ℕ} {refusal : ℕ} {r : Ran} {registers_after : List ℕ}
+    (promise : PlainPromise p m elements registers refusal r registers_after) where
   -- The refusal is 0 exactly where the plan, the modulus, the elements and the buffers are what the run asks ..
-  pub run_accepts : r.refusal ≡ 0 ↔ RunOk p m elements registers
+  pub run_accepts : refusal ≡ 0 ↔ RunOk p m elements registers
   run_accepts = subst (λ n. n ≡ 0 ↔ RunOk p m elements registers) (sym promise.refusal_is) (run_none p m elements registers)
 
   -- .. so on accepted input it is 0 ..
-  pub run_accepted : RunOk p m elements registers → r.refusal ≡ 0
+  pub run_accepted : RunOk p m elements registers → refusal ≡ 0
   run_accepted = run_accepts.1
 
   -- .. and the answer is the combination of the elements by the answer row.

@@ -1,82 +1,73 @@
--- Whether every scalar is below 2^l is decided by the scalars' top words.
+-- Whether a scalar is below 2^l is decided by its top word.
 -- Assumes nothing.
-use Prim.Native.Nat.{ℕ, suc, ◌+◌, ◌-◌, ◌*◌, ◌/◌, ◌%◌, ◌^◌, ◌≤◌, ◌<◌}
-use mathlib.Core.Path.{◌≡◌, sym, ap, ap₂, ◌∙◌}
+use Prim.Native.Nat.{ℕ, ◌+◌, ◌-◌, ◌*◌, ◌/◌, ◌%◌, ◌^◌, ◌≤◌, ◌<◌}
+use mathlib.Core.Path.{◌≡◌, sym, ap, ◌∙◌}
 use mathlib.Core.Logic.{◌↔◌}
-use mathlib.Core.Bool.{Bool, true, false}
+use mathlib.Core.Bool.{Bool}
 use mathlib.Core.List.{List}
 use native.Mathlib.Nat.{pow-succ', div-lt_iff_lt-mul}
 use native.Mathlib.Decide.{dec_lt}
 use native.Mathlib.Omega.{arith}
-use borrow.Author.Tests.{lt-ltb, le-ltb}
+use borrow.Author.Tests.{lt-ltb, le-ltb, le-leb, lt-leb}
 use lib.ListN.{length, get_or, drop, length-drop}
-use lib.Dec.{ltb}
+use lib.Dec.{ltb, leb}
 use lib.Seq.{length-take-le}
 use lib.Pow.{pow_pos}
+use Rattle.std.specs.List.{list_all}
 use Rattle.ladder.specs.Lists.{all}
-use Rattle.ladder.specs.Numbers.{numbers_of, scalar_words}
-use Rattle.ladder.proofs.Numbers.{length-numbers_of, own, number_at, own_below, own_at, own_within}
-use Rattle.refuse.proofs.Laws.{all_fails, all_goes, all_ends}
-use Rattle.scalars.specs.Inner.{Shaped}
+use Rattle.ladder.specs.Numbers.{number_of, numbers_of, scalar_words}
+use Rattle.ladder.proofs.Numbers.{own, own_below, own_within}
 use Rattle.ladder.proofs.Fields.{number_top}
+use Rattle.scalars.specs.Inner.{Shaped}
+use Rattle.scalars.proofs.Chunks.{chunks, all-tested}
 
-module _ (d l : ℕ) (ws : List ℕ) (words : (i : ℕ) → get_or ws i 0 < 2 ^ 64) (j : ℕ) (shape : Shaped d l ws) (here : j < d) where
-  abbrev k : ℕ
-  k = scalar_words l
+-- The top word of k has nothing past its share of l bits.
+abbrev pub top_fits : ℕ → ℕ → List ℕ → Bool
+top_fits l k ws = leb (get_or ws (k - 1) 0 / 2 ^ ((l - 1) % 64)) 1
 
-  some : 1 ≤ k
-  some = unfold scalar_words in omega (arith, shape.range.l_low)
+module _ (l : ℕ) (ws : List ℕ) (low : 1 ≤ l) (long : length ws ≡ scalar_words l) (words : (i : ℕ) → get_or ws i 0 < 2 ^ 64) where
+  abbrev top : ℕ
+  top = get_or ws (scalar_words l - 1) 0 / 2 ^ ((l - 1) % 64)
 
-  parts : l - 1 ≡ 64 * (k - 1) + (l - 1) % 64
-  parts = unfold scalar_words in omega (arith, shape.range.l_low)
+  parts : l - 1 ≡ 64 * (scalar_words l - 1) + (l - 1) % 64
+  parts = unfold scalar_words in omega arith
 
-  -- What number j has past l - 1 bits is what its top word has past (l - 1) % 64.
-  top : get_or (numbers_of d k ws) j 0 / 2 ^ (l - 1) ≡ get_or ws (j * k + (k - 1)) 0 / 2 ^ ((l - 1) % 64)
-  top =
-      let full : length (own k ws j) ≡ suc (k - 1) =
-      length-take-le k (drop (j * k) ws) (omega (arith, length-drop (j * k) ws, own_within d k (length ws) j shape.long here))
-      ∙ omega (arith, some) in
-      ap₂ (λ n e. n / 2 ^ e) (number_at d k ws j here) parts
-      ∙ number_top (own k ws j) (own_below k ws words j) (k - 1) ((l - 1) % 64) full
-      ∙ ap (λ w. w / 2 ^ ((l - 1) % 64)) (own_at k ws j (k - 1) (omega (arith, some)))
+  some : 1 ≤ scalar_words l
+  some = unfold scalar_words in omega arith
+
+  -- What the number has past l - 1 bits is what its top word has past (l - 1) % 64.
+  above : number_of ws / 2 ^ (l - 1) ≡ top
+  above =
+      ap (λ e. number_of ws / 2 ^ e) parts
+      ∙ number_top ws words (scalar_words l - 1) ((l - 1) % 64) (omega (arith, some))
 
   twice : 2 * 2 ^ (l - 1) ≡ 2 ^ l
-  twice = sym (pow-succ' 2 (l - 1)) ∙ ap (λ e. 2 ^ e) (omega (arith, shape.range.l_low))
+  twice = sym (pow-succ' 2 (l - 1)) ∙ ap (λ e. 2 ^ e) (omega arith)
 
-  decided : get_or (numbers_of d k ws) j 0 / 2 ^ (l - 1) < 2 ↔ get_or (numbers_of d k ws) j 0 < 2 * 2 ^ (l - 1)
+  decided : number_of ws / 2 ^ (l - 1) < 2 ↔ number_of ws < 2 * 2 ^ (l - 1)
   decided = div-lt_iff_lt-mul (pow_pos (l - 1))
 
-  -- A number is below 2^l where its top word has nothing past its share of the l bits, and only there.
-  top_small : get_or ws (j * k + (k - 1)) 0 / 2 ^ ((l - 1) % 64) ≤ 1 → get_or (numbers_of d k ws) j 0 < 2 ^ l
-  top_small h = omega (arith, twice, decided.0 (omega (arith, top)))
+  too_large : 1 < top → 2 ^ l ≤ number_of ws
+  too_large h = grind (arith, above, twice, decided.1)
 
-  top_large : 1 < get_or ws (j * k + (k - 1)) 0 / 2 ^ ((l - 1) % 64) → 2 ^ l ≤ get_or (numbers_of d k ws) j 0
-  top_large h = go (dec_lt (get_or (numbers_of d k ws) j 0) (2 ^ l))
+  -- So the top word decides whether the number is below 2^l.
+  top_decides : top_fits l (scalar_words l) ws ≡ ltb (number_of ws) (2 ^ l)
+  top_decides = go (dec_lt 1 top)
     where
-      go : Dec (get_or (numbers_of d k ws) j 0 < 2 ^ l) → 2 ^ l ≤ get_or (numbers_of d k ws) j 0
-      go (yes small) = absurd (omega (arith, top, decided.1 (omega (arith, twice))))
-      go (no large) = omega arith
+      go : Dec (1 < top) → top_fits l (scalar_words l) ws ≡ ltb (number_of ws) (2 ^ l)
+      go (yes large) = lt-leb top 1 large ∙ sym (le-ltb (number_of ws) (2 ^ l) (too_large large))
+      go (no small) = le-leb top 1 (omega arith) ∙ sym (lt-ltb (number_of ws) (2 ^ l) (omega (arith, above, twice, decided.0)))
 
-  abbrev ks : List ℕ
-  ks = numbers_of d k ws
+-- All scalars are below 2^l where all top words say so.
+pub below_tested : (d l : ℕ) (ws : List ℕ) → Shaped d l ws → ((i : ℕ) → get_or ws i 0 < 2 ^ 64)
+    → list_all (top_fits l (scalar_words l)) (chunks d (scalar_words l) ws) ≡ all (λ n. ltb n (2 ^ l)) (numbers_of d (scalar_words l) ws)
+unfolding numbers_of
+below_tested d l ws shape words =
+    all-tested d (own k ws) (top_fits l k) (λ n. ltb n (2 ^ l))
+    (λ j h. top_decides l (own k ws j) shape.range.l_low (full j h) (own_below k ws words j))
+  where
+    k : ℕ
+    k = scalar_words l
 
-  abbrev below : ℕ → Bool
-  below n = ltb n (2 ^ l)
-
-  inside : j < length ks
-  inside = omega (arith, length-numbers_of d k ws)
-
-  -- A number that is too large decides the test ..
-  pub below_fails : 1 < get_or ws (j * k + (k - 1)) 0 / 2 ^ ((l - 1) % 64) → all below (drop j ks) ≡ all below ks → false ≡ all below ks
-  below_fails h = all_fails below ks j inside (le-ltb (get_or ks j 0) (2 ^ l) (top_large h))
-
-  -- .. and one that is not leaves it to those after it.
-  pub below_goes : get_or ws (j * k + (k - 1)) 0 / 2 ^ ((l - 1) % 64) ≤ 1 → all below (drop j ks) ≡ all below ks
-      → all below (drop (j + 1) ks) ≡ all below ks
-  below_goes h = all_goes below ks j inside (lt-ltb (get_or ks j 0) (2 ^ l) (top_small h))
-
--- With none left it is passed.
-pub below_ends : (d l : ℕ) (ws : List ℕ) (j : ℕ) → d ≤ j
-    → all (λ n. ltb n (2 ^ l)) (drop j (numbers_of d (scalar_words l) ws)) ≡ all (λ n. ltb n (2 ^ l)) (numbers_of d (scalar_words l) ws)
-    → true ≡ all (λ n. ltb n (2 ^ l)) (numbers_of d (scalar_words l) ws)
-below_ends d l ws j h = all_ends (λ n. ltb n (2 ^ l)) (numbers_of d (scalar_words l) ws) j (omega (arith, length-numbers_of d (scalar_words l) ws))
+    full : (j : ℕ) → j < d → length (own k ws j) ≡ k
+    full j h = length-take-le k (drop (j * k) ws) (omega (arith, length-drop (j * k) ws, own_within d k (length ws) j shape.long h))

@@ -1,4 +1,4 @@
--- Laws of the bits gathered from all scalars, and of what is counted over them.
+-- Laws of the bits gathered from all scalars.
 -- Assumes nothing.
 use Prim.Native.Nat.{ℕ, zero, suc, ◌+◌, ◌-◌, ◌*◌, ◌/◌, ◌%◌, ◌^◌, ◌≤◌, ◌<◌}
 use mathlib.Core.Path.{◌≡◌, refl, sym, ap, ap₂, ◌∙◌}
@@ -8,9 +8,7 @@ use native.Mathlib.Omega.{arith}
 use lib.ListN.{length, get_or, drop, length-drop, drop_of_length-le}
 use lib.Pow.{pow_mono}
 use lib.Seq.{drop-cons}
-use Rattle.ladder.specs.Lists.{odds}
 use Rattle.ladder.specs.Numbers.{number_of, numbers_of}
-use Rattle.ladder.proofs.Lists.{odds_le}
 use Rattle.ladder.proofs.Numbers.{length-numbers_of, own, number_at}
 use Rattle.scalars.specs.Inner.{gathered}
 
@@ -19,10 +17,6 @@ gathered-drop : (ks : List ℕ) (i j : ℕ) → j < length ks
     → gathered (drop j ks) i ≡ gathered (drop (suc j) ks) i * 2 + get_or ks j 0 / 2 ^ i % 2
 unfolding gathered
 gathered-drop ks i j h = ap (λ ns. gathered ns i) (drop-cons ks j 0 h)
-
-odds-drop : (ks : List ℕ) (j : ℕ) → j < length ks → odds (drop j ks) ≡ get_or ks j 0 % 2 + odds (drop (suc j) ks)
-unfolding odds
-odds-drop ks j h = ap odds (drop-cons ks j 0 h)
 
 -- As many bits as there are numbers.
 gathered_below : (ks : List ℕ) (i : ℕ) → gathered ks i < 2 ^ length ks
@@ -59,11 +53,7 @@ module _ (d k : ℕ) (ws : List ℕ) where
   unfolding gathered
   gathered_none i = sym (ap (λ ns. gathered ns i) none_left)
 
-  pub odds_none : 0 ≡ odds (drop d (numbers_of d k ws))
-  unfolding odds
-  odds_none = sym (ap odds none_left)
-
-  -- Eight bits are below 256, and there are at most eight odd numbers.
+  -- Eight bits are below 256.
   pub gathered_small : (i j : ℕ) → d ≤ 8 → gathered (drop j (numbers_of d k ws)) i < 256
   gathered_small i j h =
       let ks = numbers_of d k ws in
@@ -71,15 +61,6 @@ module _ (d k : ℕ) (ws : List ℕ) where
         arith,
         gathered_below (drop j ks) i,
         pow_mono {i = length (drop j ks)} {j = 8} (omega (arith, length-drop j ks, length-numbers_of d k ws)),
-      )
-
-  pub odds_small : (j : ℕ) → d ≤ 8 → odds (drop j (numbers_of d k ws)) ≤ 8
-  odds_small j h =
-      omega (
-        arith,
-        odds_le (drop j (numbers_of d k ws)),
-        length-drop j (numbers_of d k ws),
-        length-numbers_of d k ws,
       )
 
 module _ (d k : ℕ) (ws : List ℕ) (j : ℕ) (some : 0 < j) (within : j ≤ d) where
@@ -99,14 +80,3 @@ module _ (d k : ℕ) (ws : List ℕ) (j : ℕ) (some : 0 < j) (within : j ≤ d)
       (e ∙ ap (λ m. gathered (drop m numbers) i) (sym next))
       (f ∙ ap (λ n. n / 2 ^ i % 2) (sym (number_at d k ws (j - 1) (omega arith))))
       ∙ sym (gathered-drop numbers i (j - 1) inside)
-
-  pub odds_more : (odd b : ℕ) → odd ≡ odds (drop j numbers) → b ≡ number_of (own k ws (j - 1)) / 2 ^ 0 % 2
-      → odd + b ≡ odds (drop (j - 1) numbers)
-  odds_more odd b e f =
-      omega (
-        arith,
-        ap (λ m. odds (drop m numbers)) next,
-        number_at d k ws (j - 1) (omega arith),
-        odds-drop numbers (j - 1) inside,
-        div-one (number_of (own k ws (j - 1))),
-      )

@@ -27,3 +27,7 @@ words_within d l ws s k j e h = own_within d k (length ws) j (s.long ∙ ap (λ 
 pub word_within : (l k i : ℕ) → k ≡ scalar_words l → i < l → i / 64 < k
 unfolding scalar_words
 word_within l k i e h = omega arith
+
+-- A scalar has some word.
+pub some_words : (l k : ℕ) → k ≡ scalar_words l → 1 ≤ l → 0 < k
+some_words l k e h = omega (arith, word_within l k 0 e (omega arith))

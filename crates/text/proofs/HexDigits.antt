@@ -3,10 +3,11 @@
 use Prim.Native.Nat.{ℕ, suc, ◌+◌, ◌-◌, ◌*◌, ◌/◌, ◌%◌, ◌^◌, ◌≤◌, ◌<◌}
 use mathlib.Core.Path.{◌≡◌, refl, sym, ap, ◌∙◌}
 use mathlib.Core.Logic.{◌≢◌, inl, inr}
-use mathlib.Core.List.{List}
+use mathlib.Core.List.{List, [], ◌∷◌, ◌++◌}
 use native.Mathlib.Nat.{pow-succ', one-le-pow, div-lt_iff_lt-mul, le-div_iff_mul-le}
 use native.Mathlib.Omega.{arith}
-use lib.ListN.{length, get_or, length-map}
+use lib.ListN.{length, get_or, take, length-map}
+use lib.Seq.{take-suc}
 use Rattle.ladder.specs.Numbers.{number_of}
 use Rattle.ladder.specs.Listing.{digits_of, character, hexadecimal}
 use Rattle.ladder.proofs.Lists.{get_or-map}
@@ -95,12 +96,18 @@ hex_within ws words some =
       digits_length 16 (omega arith) (16 * length ws - 1) (number_of ws) (rw (last all) all.below),
     )
 
--- Character i, from the highest digit's on, is that of the digit in its place.
-pub hex_character : (n count i : ℕ) → count ≡ length (hexadecimal n) → i < count → {x : ℕ} → x ≡ n / 16 ^ (count - 1 - i) % 16
-    → character x ≡ get_or (hexadecimal n) i 0
+-- The characters of the digits down to digit i, from the lowest, and that of the next.
+pub hex_next : (n i : ℕ) → 1 ≤ i → i ≤ length (hexadecimal n)
+    → take (length (hexadecimal n) - (i - 1)) (hexadecimal n)
+    ≡ take (length (hexadecimal n) - i) (hexadecimal n) ++ character (n / 16 ^ (i - 1) % 16) ∷ []
 unfolding hexadecimal
-hex_character n count i e h f =
-    let long : count ≡ length (digits_of 16 n) = e ∙ length-hexadecimal n in
-    let here : i < length (digits_of 16 n) = omega arith in
-    ap character (f ∙ ap (λ k. n / 16 ^ (k - 1 - i) % 16) long ∙ sym (digits_nth 16 (omega arith) n i here))
-    ∙ sym (get_or-map character (digits_of 16 n) i 0 0 here)
+hex_next n i low high =
+    let long = length-hexadecimal n in
+    let j = length (hexadecimal n) - i in
+    let more : length (hexadecimal n) - (i - 1) ≡ suc j = omega arith in
+    let here : j < length (digits_of 16 n) = omega arith in
+    let place : length (digits_of 16 n) - 1 - j ≡ i - 1 = omega arith in
+    ap (λ k. take k (hexadecimal n)) more ∙ take-suc (hexadecimal n) j 0 (omega arith)
+    ∙ ap (λ x. take j (hexadecimal n) ++ x ∷ [])
+    (get_or-map character (digits_of 16 n) j 0 0 here
+    ∙ ap character (digits_nth 16 (omega arith) n j here ∙ ap (λ k. n / 16 ^ k % 16) place))

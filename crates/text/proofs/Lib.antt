@@ -1,8 +1,8 @@
 -- Laws of the lines of a listing.
-pub mod Putting
 pub mod Fields
-pub mod Spelling
-pub mod HexDigits
+pub mod Spelled
 pub mod DecimalDigits
-pub mod ValueLine
+pub mod HexDigits
+pub mod StepLines
 pub mod PlanLines
+pub mod ValueLine

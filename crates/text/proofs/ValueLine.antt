@@ -1,92 +1,78 @@
--- The line of the decoded values: a value among the words of all, and the loop over the values.
+-- The values of a plan that is not refused, decoded into words: the loop over their chunks goes through the answer row.
 -- Assumes nothing.
-use Prim.Native.Nat.{ℕ, ◌+◌, ◌-◌, ◌*◌, ◌≤◌, ◌<◌}
-use mathlib.Core.Path.{◌≡◌, sym, ap, subst, ◌∙◌}
-use mathlib.Core.List.{List, [], ◌∷◌, map}
+use Prim.Native.Nat.{ℕ, ◌*◌, ◌≤◌, ◌<◌}
+use mathlib.Core.Path.{◌≡◌, sym, ap, ap₂, subst, ◌∙◌}
+use mathlib.Core.List.{List}
 use native.Mathlib.Omega.{arith}
-use lib.ListN.{length, get_or, take, drop, length-drop, length-map}
+use lib.ListN.{length, get_or, drop, length-drop}
 use lib.Seq.{length-take-le}
-use Rattle.ladder.specs.Numbers.{number_of, numbers_of}
-use Rattle.ladder.specs.Listing.{line, hexadecimal}
-use Rattle.ladder.proofs.Lists.{get_or-map}
-use Rattle.ladder.proofs.Numbers.{own, own_within, number_at, length-numbers_of}
-use Rattle.text.specs.Inner.{Fits, Put, ValueIn, ValuesIn}
-use Rattle.text.proofs.Putting.{put_none, put_then, put_room}
-use Rattle.text.proofs.Fields.{Fielding, fielding_start, fielding_room, fielding_next, fielding_room_end, fielding_end}
+use Rattle.std.specs.declared.slice.ChunksExact.{ChunksExact}
+use Rattle.std.proofs.Common.{Option, None, Some}
+use Rattle.std.specs.Iterator.{Yields}
+use Rattle.std.specs.Slice.Iter.{chunks_exact_rest, chunks_exact_size, chunks_exact_steps}
+use Rattle.std.proofs.lemmas.Iterator.{YieldsList}
+use Rattle.std.proofs.lemmas.Iterator.Consumers.{YieldsList-turn, YieldsList-end}
+use denote.Ref.{Bor}
+use Rattle.ladder.specs.Numbers.{number_of, numbers_of, value_words, values_length}
+use Rattle.ladder.specs.Plan.{Plan, values_in, answer_row}
+use Rattle.ladder.proofs.Demand2.{decode_words, answer_wide}
+use Rattle.ladder.proofs.Lengths.{values_length_lem}
+use Rattle.ladder.proofs.Lists.{length-tabulate, get_or-tabulate}
+use Rattle.ladder.proofs.Numbers.{own, own_within, number_at}
+use Rattle.scalars.proofs.Chunks.{chunks, chunked}
+use Rattle.text.specs.Inner.{Listable}
+use Rattle.text.proofs.PlanLines.{plan_ok}
 
--- ---- one value
+-- The words of value j: one at least and ten at the most, which make entry j of the answer row.
+pub record ValueAt (p : Plan) (j : ℕ) (value : List ℕ) : Type 0 where
+  pub within : j < length (answer_row p)
+  pub low : 1 ≤ length value
+  pub high : length value ≤ 10
+  pub number : get_or (answer_row p) j 0 ≡ number_of value
 
-module _ {k j : ℕ} {ws : List ℕ} (v : ValueIn k j ws) where
-  -- The words that the code takes.
-  abbrev taken : List ℕ
-  taken = take (j * k + k - j * k) (drop (j * k) ws)
+module _ (p : Plan) (asked : Listable p) (k : ℕ) (words : k ≡ value_words p.l) (values : List ℕ) (decoded : values ≡ values_in p) where
+  wide : length (answer_row p) ≡ p.d
+  wide = answer_wide p (plan_ok p asked).plan
 
-  taken_own : taken ≡ own k ws j
-  taken_own =
-      let count : j * k + k - j * k ≡ k = omega arith in
-      ap (λ n. take n (drop (j * k) ws)) count
+  pub k_low : 1 ≤ k
+  unfolding value_words
+  k_low = omega (arith, words)
 
-  length_own : length (own k ws j) ≡ k
-  length_own = length-take-le k (drop (j * k) ws) (omega (arith, v.inside, length-drop (j * k) ws))
+  k_high : k ≤ 10
+  unfolding value_words
+  k_high = omega (arith, words, (plan_ok p asked).plan.l_high)
 
-  -- They are as many as a number may have, and after the space there is room for it ..
-  pub value_asked : {start : List ℕ} {at : ℕ} {text : List ℕ} {next : ℕ} → Put start at (32 ∷ []) text next
-      → Fits start at (32 ∷ hexadecimal (number_of (own k ws j)))
-      → (1 ≤ length taken) × ((length taken ≤ 10) × Fits text next (hexadecimal (number_of taken)))
-  value_asked p fits =
-      let room = put_room p (hexadecimal (number_of (own k ws j))) fits in
-      rw taken_own (omega (arith, v.k_low, length_own), (omega (arith, v.k_high, length_own), room))
+  long : length values ≡ p.d * k
+  unfolding values_length
+  long = ap length decoded ∙ values_length_lem p (plan_ok p asked).plan ∙ ap (λ n. p.d * n) (sym words)
 
-  -- .. which is then put.
-  pub value_put : {start : List ℕ} {at : ℕ} {text : List ℕ} {next : ℕ} → Put start at (32 ∷ []) text next
-      → {after : List ℕ} {then : ℕ} → Put text next (hexadecimal (number_of taken)) after then
-      → Put start at (32 ∷ hexadecimal (number_of (own k ws j))) after then
-  value_put p q = put_then p (rw taken_own at q)
+  value_at : (j : ℕ) → j < p.d → ValueAt p j (own k values j)
+  value_at j h =
+      let whole : length (own k values j) ≡ k =
+      length-take-le k (drop (j * k) values) (omega (arith, length-drop (j * k) values, own_within p.d k (length values) j long h)) in
+      record {
+        within = omega (arith, wide);
+        low = omega (arith, whole, k_low);
+        high = omega (arith, whole, k_high);
+        number =
+            ap (λ row. get_or row j 0)
+            (sym (ap₂ (λ n ws. numbers_of p.d n ws) words decoded ∙ decode_words p (plan_ok p asked).plan))
+            ∙ number_at p.d k values j h;
+      }
 
--- ---- all of them
+  module _ (s : ChunksExact ℕ) (e : chunks_exact_rest s ≡ values) (f : chunks_exact_size s ≡ k)
+      (xs : List (Bor (List ℕ))) (t : ChunksExact ℕ) (y : Yields (chunks_exact_steps {A = ℕ}) s xs t)
+      (r : Option (Bor (List ℕ))) (u : ChunksExact ℕ) (step : chunks_exact_steps t r u) where
+    road : YieldsList (chunks_exact_steps {A = ℕ}) (λ x. x.now) s (chunks p.d k values)
+    road = chunked p.d k values e f k_low long
 
--- The fields of the line.
-abbrev pub fields : ℕ → ℕ → List ℕ → List (List ℕ)
-fields d k ws = map hexadecimal (numbers_of d k ws)
+    -- Each chunk is the words of the next value ..
+    pub turned : (x : Bor (List ℕ)) → r ≡ Some x → ValueAt p (length xs) x.now
+    turned x some =
+        let turn = YieldsList-turn road xs t y r u x some step in
+        let h : length xs < p.d = omega (arith, turn.0, length-tabulate p.d (own k values)) in
+        subst (ValueAt p (length xs)) (sym (turn.1 ∙ get_or-tabulate p.d (own k values) (length xs) x.now h)) (value_at (length xs) h)
 
-module _ (d k : ℕ) (ws : List ℕ) where
-  many : length (fields d k ws) ≡ d
-  many = length-map (numbers_of d k ws) hexadecimal ∙ length-numbers_of d k ws
-
-  -- None is put.
-  pub values_start : (text : List ℕ) (at : ℕ) → Fielding [] (fields d k ws) text at text at 0
-  values_start text at = fielding_start (fields d k ws) (put_none text at)
-
-  module _ {start : List ℕ} {at : ℕ} {text : List ℕ} {next j : ℕ} (w : Fielding [] (fields d k ws) start at text next j) where
-    module _ (h : j < d) where
-      field : get_or (fields d k ws) j [] ≡ hexadecimal (number_of (own k ws j))
-      field =
-          get_or-map hexadecimal (numbers_of d k ws) j 0 [] (omega (arith, length-numbers_of d k ws))
-          ∙ ap hexadecimal (number_at d k ws j h)
-
-      -- Value j lies within the words, and there is room for it ..
-      pub values_asked : ValuesIn d k ws → Fits start at (line [] (fields d k ws))
-          → ValueIn k j ws × Fits text next (32 ∷ hexadecimal (number_of (own k ws j)))
-      values_asked v fits = (
-        record {
-          k_low = v.k_low;
-          k_high = v.k_high;
-          j_high = omega (arith, v.d_high);
-          inside = own_within d k (length ws) j v.long h;
-        },
-        subst (λ f. Fits text next (32 ∷ f)) field (fielding_room w (omega (arith, many)) fits),
-      )
-
-      -- .. and with it one more is put.
-      pub values_next : {after : List ℕ} {then : ℕ} → Put text next (32 ∷ hexadecimal (number_of (own k ws j))) after then
-          → Fielding [] (fields d k ws) start at after then (j + 1)
-      values_next p = fielding_next w (omega (arith, many)) (sym field) p
-
-    module _ (h : d ≤ j) where
-      -- After the last there is room for the newline ..
-      pub values_room : Fits start at (line [] (fields d k ws)) → Fits text next (10 ∷ [])
-      values_room fits = fielding_room_end w (omega (arith, many)) fits
-
-      -- .. and with it all are put.
-      pub values_end : {after : List ℕ} {then : ℕ} → Put text next (10 ∷ []) after then → Put start at (line [] (fields d k ws)) after then
-      values_end p = fielding_end w (omega (arith, many)) p
+    -- .. and after the last come no more.
+    pub ended : r ≡ None → length (answer_row p) ≤ length xs
+    ended none = omega (arith, (YieldsList-end road xs t y r u none step).1, length-tabulate p.d (own k values), wide)

@@ -1,35 +1,38 @@
-// Numbers below 1,000 in decimal: no listing has a larger one.
-ghost use Rattle.std.specs.Prelude.{◌∷◌, ◌<◌};
-ghost use Rattle.ladder.specs.Listing.{decimal};
-ghost use Rattle.text.specs.Inner.{Fits, Put};
+// Numbers in decimal.
+ghost use Rattle.std.specs.Prelude.{◌≡◌, ◌∷◌, ◌++◌, ◌<◌};
+ghost use Rattle.ladder.specs.Listing.{character, decimal};
+ghost use Rattle.text.specs.Inner.{Room};
 
-use crate::put::{character, put_bytes};
+use crate::lines::Lines;
 
-// A number with no leading zeros.
-pub fn put_decimal(n: u64, text: &mut [u8], at: usize) -> usize
-    requires { (n < 1000) × Fits text.old at (decimal n) }
-    ensures { Put text.old at (decimal n) text.new result }
+// A digit as a character: 0 to 9, then a to f.
+#[tactic(auto, unfolding(ladder::specs::Listing::character))]
+pub fn character(x: u64) -> u8
+    requires { x < 16 }
+    ensures { result ≡ character x }
 {
-    if n < 10 {
-        text[at] = character(n);
-        return at + 1;
-    }
-    if n < 100 {
-        text[at] = character(n / 10);
-        text[at + 1] = character(n % 10);
-        return at + 2;
-    }
-    text[at] = character(n / 100);
-    text[at + 1] = character(n / 10 % 10);
-    text[at + 2] = character(n % 10);
-    at + 3
+    b"0123456789abcdef"[x as usize]
 }
 
-// A space and a number.
-pub fn put_number(n: u64, text: &mut [u8], at: usize) -> usize
-    requires { (n < 1000) × Fits text.old at (32 ∷ decimal n) }
-    ensures { Put text.old at (32 ∷ decimal n) text.new result }
-{
-    let next = put_bytes(b" ", text, at);
-    put_decimal(n, text, next)
+impl Lines {
+    // A number with no leading zeros.
+    #[tactic(auto, using(crate::proofs::DecimalDigits::digit_by_digit))]
+    pub(crate) fn decimal(&mut self, n: u64)
+        requires { Room self.old (decimal n) }
+        ensures { self.new ≡ self.old ++ decimal n }
+    {
+        if n >= 10 {
+            self.decimal(n / 10);
+        }
+        self.byte(character(n % 10));
+    }
+
+    // A space and a number.
+    pub(crate) fn number(&mut self, n: u64)
+        requires { Room self.old (32 ∷ decimal n) }
+        ensures { self.new ≡ self.old ++ 32 ∷ decimal n }
+    {
+        self.byte(b' ');
+        self.decimal(n);
+    }
 }

@@ -1,33 +1,29 @@
 // The line of the decoded values.
-ghost use Rattle.std.specs.Prelude.{◌∷◌, map, take, drop, ◌*◌};
-ghost use Rattle.ladder.specs.Numbers.{number_of, numbers_of};
-ghost use Rattle.ladder.specs.Listing.{line, value_word, hexadecimal};
-ghost use Rattle.text.specs.Inner.{Fits, Put, ValuesIn, ValueIn};
+ghost use Rattle.std.specs.Prelude.{◌≡◌, ◌++◌};
+ghost use Rattle.ladder.specs.Listing.{value_line};
+ghost use Rattle.loose.specs.PlanOf.{plan_of};
+ghost use Rattle.text.specs.Inner.{Listable, Room};
 
-use crate::hexadecimal::put_hexadecimal;
-use crate::put::put_bytes;
+use crate::lines::Lines;
+use loose::Plan;
+use values::{decode_values, value_words};
 
-// A space and value j, of k words.
-fn put_value(values: &[u64], k: usize, j: usize, text: &mut [u8], at: usize) -> usize
-    requires { ValueIn k j values.now × Fits text.old at (32 ∷ hexadecimal (number_of (take k (drop (j * k) values.now)))) }
-    ensures { Put text.old at (32 ∷ hexadecimal (number_of (take k (drop (j * k) values.now)))) text.new result }
-{
-    let next = put_bytes(b" ", text, at);
-    let from = j * k;
-    let to = from + k;
-    put_hexadecimal(&values[from..to], text, next)
-}
-
-// `value` and d values of k words each.
-pub fn put_value_line(values: &[u64], d: usize, k: usize, text: &mut [u8], at: usize) -> usize
-    requires { ValuesIn d k values.now × Fits text.old at (line value_word (map hexadecimal (numbers_of d k values.now))) }
-    ensures { Put text.old at (line value_word (map hexadecimal (numbers_of d k values.now))) text.new result }
-{
-    let mut next = put_bytes(b"value", text, at);
-    let mut j: usize = 0;
-    while j < d {
-        next = put_value(values, k, j, text, next);
-        j += 1;
+impl Lines {
+    // Decodes the plan, which is not refused, into the most words that there can be, and appends the line of its values.
+    #[tactic(auto, using(crate::proofs::Spelled::spelled, crate::proofs::Fields::fielding))]
+    pub(crate) fn value_line(&mut self, plan: &Plan)
+        requires { Listable (plan_of plan.now) × Room self.old (value_line (plan_of plan.now)) }
+        ensures { self.new ≡ self.old ++ value_line (plan_of plan.now) }
+    {
+        let words = value_words(plan.l as usize);
+        let mut room = [0u64; 80];
+        let values = &mut room[..plan.d as usize * words];
+        decode_values(plan, values);
+        self.bytes(b"value");
+        for value in values.chunks_exact(words) {
+            self.byte(b' ');
+            self.hexadecimal(value);
+        }
+        self.byte(b'\n');
     }
-    put_bytes(b"\n", text, next)
 }

@@ -1,10 +1,11 @@
 // A number of several words in hexadecimal.
-ghost use Rattle.std.specs.Prelude.{◌≡◌, ◌*◌, ◌/◌, ◌%◌, ◌^◌, ◌≤◌, ◌<◌, length};
+ghost use Rattle.std.specs.Prelude.{◌≡◌, ◌++◌, ◌*◌, ◌/◌, ◌%◌, ◌^◌, ◌≤◌, ◌<◌, length};
 ghost use Rattle.ladder.specs.Numbers.{number_of};
 ghost use Rattle.ladder.specs.Listing.{hexadecimal};
-ghost use Rattle.text.specs.Inner.{Fits, Put};
+ghost use Rattle.text.specs.Inner.{Room};
 
-use crate::put::character;
+use crate::decimal::character;
+use crate::lines::Lines;
 
 // Digit i, from the lowest.
 fn hex_digit(words: &[u64], i: usize) -> u64
@@ -20,26 +21,23 @@ fn hex_length(words: &[u64]) -> usize
     requires { (1 ≤ length words.now) × (length words.now ≤ 10) }
     ensures { result ≡ length (hexadecimal (number_of words.now)) }
 {
-    let mut n = 16 * words.len();
-    while 1 < n {
-        if hex_digit(words, n - 1) != 0 {
-            return n;
+    for i in (1..16 * words.len()).rev() {
+        if hex_digit(words, i) != 0 {
+            return i + 1;
         }
-        n -= 1;
     }
     1
 }
 
-// A number with no leading zeros.
-pub fn put_hexadecimal(words: &[u64], text: &mut [u8], at: usize) -> usize
-    requires { (1 ≤ length words.now) × ((length words.now ≤ 10) × Fits text.old at (hexadecimal (number_of words.now))) }
-    ensures { Put text.old at (hexadecimal (number_of words.now)) text.new result }
-{
-    let count = hex_length(words);
-    let mut i: usize = 0;
-    while i < count {
-        text[at + i] = character(hex_digit(words, count - 1 - i));
-        i += 1;
+impl Lines {
+    // A number with no leading zeros.
+    #[tactic(auto, using(crate::proofs::HexDigits::hex_next, std::proofs::lemmas::Grind::common_steps))]
+    pub(crate) fn hexadecimal(&mut self, words: &[u64])
+        requires { (1 ≤ length words.now) × ((length words.now ≤ 10) × Room self.old (hexadecimal (number_of words.now))) }
+        ensures { self.new ≡ self.old ++ hexadecimal (number_of words.now) }
+    {
+        for i in (0..hex_length(words)).rev() {
+            self.byte(character(hex_digit(words, i)));
+        }
     }
-    at + count
 }

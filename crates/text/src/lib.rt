@@ -1,14 +1,15 @@
-// The lines of a listing, put one after the other into a lent buffer. An inside, for the crates of this repository: what is put
-// fits, and was judged before.
+// The lines of a listing, in an array with room for the longest. An inside, for the crates of this repository: what is listed was judged
+// before.
 #![tactic(auto)]
 
 mod decimal;
 mod decoded;
 mod hexadecimal;
 mod lines;
+mod opening;
 mod plans;
-mod put;
 mod steps;
 
-pub use lines::put_refused;
-pub use plans::put_plan;
+pub use lines::{LONGEST_TEXT, Lines};
+pub use opening::refused_line;
+pub use plans::plan_lines;

@@ -1,43 +1,63 @@
-// The lines of a listing but those of the steps and the values.
-ghost use Rattle.std.specs.Prelude.{map, ◌<◌};
-ghost use Rattle.ladder.specs.Listing.{line, plan_word, start_word, decimal, refused_text};
-ghost use Rattle.text.specs.Inner.{Fits, Put, Digits, plan_fields};
+// Text as it grows, in an array that has room for the longest listing. The other files of this crate append its pieces.
+ghost use Rattle.std.specs.Prelude.{◌≡◌, ◌∷◌, ◌++◌, ◌≤◌, [], List, ℕ, take};
+ghost use Rattle.text.specs.Inner.{Room};
 
-use crate::decimal::put_number;
-use crate::put::put_bytes;
+use std::marker::Model;
 
-// `plan` d l row.
-pub fn put_plan_line(d: u64, l: u64, row: u64, text: &mut [u8], at: usize) -> usize
-    requires { (d < 1000) × ((l < 1000) × ((row < 1000) × Fits text.old at (line plan_word (plan_fields d l row)))) }
-    ensures { Put text.old at (line plan_word (plan_fields d l row)) text.new result }
-{
-    let head = put_bytes(b"plan", text, at);
-    let dimension = put_number(d, text, head);
-    let length = put_number(l, text, dimension);
-    let answer = put_number(row, text, length);
-    put_bytes(b"\n", text, answer)
+// The length of the longest text: d 8, l 576, every entry 2^576.
+pub const LONGEST_TEXT: usize = 8589;
+
+// The text is the first `length` bytes. Only this crate appends to it, and asks for the room each time.
+#[derive(Drop)]
+pub struct Lines {
+    bytes: [u8; LONGEST_TEXT],
+    length: usize,
 }
 
-// `start` and the order.
-pub fn put_start_line(start: &[u8], text: &mut [u8], at: usize) -> usize
-    requires { Digits start.now × Fits text.old at (line start_word (map decimal start.now)) }
-    ensures { Put text.old at (line start_word (map decimal start.now)) text.new result }
-{
-    let mut next = put_bytes(b"start", text, at);
-    let mut i: usize = 0;
-    while i < start.len() {
-        next = put_number(start[i] as u64, text, next);
-        i += 1;
+impl Model for Lines {
+    ghost Value = { List ℕ };
+
+    ghost view = { λ s. take s.length s.bytes };
+
+    ghost invariant = { λ s. s.length ≤ 8589 };
+}
+
+impl Lines {
+    // No text yet.
+    pub(crate) fn new() -> Lines
+        ensures { result ≡ [] }
+    {
+        Lines {
+            bytes: [0; LONGEST_TEXT],
+            length: 0,
+        }
     }
-    put_bytes(b"\n", text, next)
-}
 
-// `refused` and the number.
-pub fn put_refused(n: u64, text: &mut [u8], at: usize) -> usize
-    requires { (n < 1000) × Fits text.old at (refused_text n) }
-    ensures { Put text.old at (refused_text n) text.new result }
-{
-    let head = put_bytes(b"refused", text, at);
-    let number = put_number(n, text, head);
-    put_bytes(b"\n", text, number)
+    // The text so far.
+    pub fn text(&self) -> &[u8]
+        ensures { result.now ≡ self.now }
+    {
+        &self.bytes[..self.length]
+    }
+
+    // Appends a character.
+    #[tactic(auto, unfolding(ladder::specs::Numbers::longest_text))]
+    pub(crate) fn byte(&mut self, byte: u8)
+        requires { Room self.old (byte ∷ []) }
+        ensures { self.new ≡ self.old ++ byte ∷ [] }
+    {
+        self.bytes[self.length] = byte;
+        self.length += 1;
+    }
+
+    // Appends a word.
+    #[tactic(auto, unfolding(ladder::specs::Numbers::longest_text))]
+    pub(crate) fn bytes(&mut self, bytes: &[u8])
+        requires { Room self.old bytes.now }
+        ensures { self.new ≡ self.old ++ bytes.now }
+    {
+        let end = self.length + bytes.len();
+        self.bytes[self.length..end].copy_from_slice(bytes);
+        self.length = end;
+    }
 }

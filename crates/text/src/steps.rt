@@ -1,49 +1,50 @@
 // The lines of the steps.
-ghost use Rattle.std.specs.Prelude.{map};
+ghost use Rattle.std.specs.Prelude.{◌≡◌, ◌++◌, ◌<◌, map};
 ghost use Rattle.ladder.specs.Lists.{joined};
-ghost use Rattle.ladder.specs.Numbers.{bits_at};
-ghost use Rattle.ladder.specs.Listing.{character};
-ghost use Rattle.text.specs.Inner.{Fits, Put, StepIn, StepsIn, step_text};
+ghost use Rattle.ladder.specs.Plan.{step_bits};
+ghost use Rattle.ladder.specs.Listing.{character, step_line};
+ghost use Rattle.loose.specs.PlanOf.{plan_of};
+ghost use Rattle.text.specs.Inner.{Listable, Room};
 
-use crate::decimal::put_decimal;
-use crate::put::{character, put_bytes};
+use crate::decimal::character;
+use crate::lines::Lines;
 use bits::{bit, step_bits};
+use loose::Plan;
 
-// The bits of step s (from 0), the first first.
-fn put_bits(bits: &[u8], d: usize, s: usize, text: &mut [u8], at: usize) -> usize
-    requires { StepIn d s bits.now × Fits text.old at (map character (bits_at d bits.now s)) }
-    ensures { Put text.old at (map character (bits_at d bits.now s)) text.new result }
-{
-    let r = step_bits(bits, d, s);
-    let mut k: usize = 0;
-    while k < d {
-        text[at + k] = character(bit(d, r, k));
-        k += 1;
+impl Lines {
+    // The bits of step s (from 0), the first first.
+    #[tactic(auto, using(crate::proofs::StepLines::showing))]
+    fn bits(&mut self, plan: &Plan, s: usize)
+        requires { Listable (plan_of plan.now) × ((s < plan.now.l) × Room self.old (map character (step_bits (plan_of plan.now) s))) }
+        ensures { self.new ≡ self.old ++ map character (step_bits (plan_of plan.now) s) }
+    {
+        let d = plan.d as usize;
+        let r = step_bits(plan.bits, d, s);
+        for k in 0..d {
+            self.byte(character(bit(d, r, k)));
+        }
     }
-    at + d
-}
 
-// The number of step s (from 0), counted from 1, and its bits.
-fn put_step_line(bits: &[u8], d: usize, s: usize, text: &mut [u8], at: usize) -> usize
-    requires { StepIn d s bits.now × Fits text.old at (step_text d bits.now s) }
-    ensures { Put text.old at (step_text d bits.now s) text.new result }
-{
-    let number = put_decimal(s as u64 + 1, text, at);
-    let space = put_bytes(b" ", text, number);
-    let ends = put_bits(bits, d, s, text, space);
-    put_bytes(b"\n", text, ends)
-}
-
-// The lines of steps 1 to l.
-pub fn put_step_lines(bits: &[u8], d: usize, l: usize, text: &mut [u8], at: usize) -> usize
-    requires { StepsIn d l bits.now × Fits text.old at (joined l (step_text d bits.now)) }
-    ensures { Put text.old at (joined l (step_text d bits.now)) text.new result }
-{
-    let mut next = at;
-    let mut s: usize = 0;
-    while s < l {
-        next = put_step_line(bits, d, s, text, next);
-        s += 1;
+    // The number of step s (from 0), counted from 1, and its bits.
+    #[tactic(auto, using(crate::proofs::Spelled::spelled))]
+    fn step_line(&mut self, plan: &Plan, s: usize)
+        requires { Listable (plan_of plan.now) × ((s < plan.now.l) × Room self.old (step_line (plan_of plan.now) s)) }
+        ensures { self.new ≡ self.old ++ step_line (plan_of plan.now) s }
+    {
+        self.decimal(s as u64 + 1);
+        self.byte(b' ');
+        self.bits(plan, s);
+        self.byte(b'\n');
     }
-    next
+
+    // The lines of steps 1 to l.
+    #[tactic(auto, using(crate::proofs::StepLines::stepping))]
+    pub(crate) fn step_lines(&mut self, plan: &Plan)
+        requires { Listable (plan_of plan.now) × Room self.old (joined plan.now.l (step_line (plan_of plan.now))) }
+        ensures { self.new ≡ self.old ++ joined plan.now.l (step_line (plan_of plan.now)) }
+    {
+        for s in 0..plan.l as usize {
+            self.step_line(plan, s);
+        }
+    }
 }

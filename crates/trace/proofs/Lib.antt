@@ -5,5 +5,6 @@ pub mod StepBlocks
 pub mod WalkBlocks
 pub mod Tracing
 pub mod PlanTrace
+pub mod Kept
 pub mod Unique
 pub mod Promised

@@ -1,27 +1,26 @@
--- The blocks of a walk's trace: how long they are, and that each is one doubling and d additions.
+-- The blocks of a walk's trace: each is one doubling and d additions.
 -- Assumes nothing.
 use Prim.Native.Nat.{ℕ, zero, suc, pred, ◌+◌, ◌*◌, ◌^◌, ◌<◌}
 use mathlib.Core.Path.{◌≡◌, refl, sym, ap, subst, ◌∙◌}
-use mathlib.Core.List.{List, [], ◌∷◌, ◌++◌, map, flatten}
+use mathlib.Core.List.{List, [], ◌∷◌, ◌++◌, map}
 use native.Mathlib.Nat.{zero-mul, suc-mul}
 use native.Mathlib.Omega.{arith}
 use lib.IntN.{ℤ, pos}
-use lib.ListN.{length, get_or, set, take, replicate, length-append}
+use lib.ListN.{length, get_or, set, take, replicate}
 use Rattle.ladder.specs.Numbers.{bits_at}
 use Rattle.ladder.specs.Matrix.{Pair, additions, step_order, step_signs}
-use Rattle.ladder.specs.Trace.{Entry, operations, entry_of, block, trace_bytes, doublings, addition_count}
+use Rattle.ladder.specs.Trace.{Entry, operations, entry_of, block, doublings, addition_count}
 use Rattle.ladder.specs.Walk.{Walk, bits_of, walk_of, order_of, walk_signs, step_walk}
 use Rattle.ladder.proofs.Step.{length-step_order, length-additions}
 use Rattle.ladder.proofs.Numbers.{tabulate_below}
 use Rattle.ladder.proofs.Bits.{bit_at_below, length-bits_at}
-use Rattle.ladder.proofs.Trace.{doublings-append, addition_count-append, block-doublings, block-additions, trace_bytes-append}
+use Rattle.ladder.proofs.Trace.{doublings-append, addition_count-append, block-doublings, block-additions}
 use Rattle.ladder.proofs.Walk.{number_of_bits, number_of_bits_below, bits_of_number_of_bits, order_of_walk, length-bits_of}
 use Rattle.bits.specs.Ready.{Ready}
 use Rattle.bits.specs.ReadBits.{ReadBits}
 use Rattle.bits.specs.WalkBlock.{filled, walk_block}
 use Rattle.bits.proofs.Stepping.{ready_step}
 use Rattle.trace.specs.Inner.{walk_entries}
-use Rattle.trace.proofs.Blocks.{block-length}
 
 -- ---- one block
 
@@ -71,11 +70,6 @@ module _ {w : Walk} (ready : Ready w) (n : ℕ) where
       (unfold order_of walk_of in
       order_of_walk w.d (step_order (order_of w) (bits_of w.d n)) (step_signs (walk_signs w) (order_of w) (bits_of w.d n)) places)
 
-  pub block_of_length : length (trace_bytes (block_of w n)) ≡ (w.d + 1) * (w.d + 2)
-  unfolding step_walk walk_of
-  block_of_length =
-      ap (λ es. length (trace_bytes es)) (sym block_of_arrays) ∙ block-length ready.high w.signs (ready_step ready n).order n
-
   pub block_of_doublings : doublings (block_of w n) ≡ 1
   block_of_doublings = one_doubling w.d (walk_signs w) _ (bits_of w.d n) (places ∙ sym (length-bits_of w.d n))
 
@@ -114,25 +108,7 @@ pub step_d : (w : Walk) (n : ℕ) → (step_walk w n).d ≡ w.d
 unfolding step_walk walk_of
 step_d w n = refl
 
--- Each step has (d + 1) * (d + 2) bytes, one doubling and d additions.
-pub entries_length : (m : ℕ) (w : Walk) → Ready w → (bytes : List ℕ) (s : ℕ)
-    → length (trace_bytes (walk_entries w bytes s m)) ≡ m * ((w.d + 1) * (w.d + 2))
-unfolding walk_entries trace_bytes flatten
-entries_length zero w ready bytes s = sym (zero-mul ((w.d + 1) * (w.d + 2)))
-entries_length (suc m) w ready bytes s =
-    let n = number_at w bytes s in
-    let later = walk_entries (step_walk w n) bytes (suc s) m in
-    omega (
-      arith,
-      ap (λ es. length (trace_bytes es)) (entries_next w bytes s m n (bits_number w.d bytes s)),
-      ap length (trace_bytes-append (block_of w n) later),
-      length-append (trace_bytes (block_of w n)) (trace_bytes later),
-      block_of_length ready n,
-      entries_length m (step_walk w n) (ready_step ready n) bytes (suc s)
-          ∙ ap (λ d. m * ((d + 1) * (d + 2))) (step_d w n),
-      suc-mul m ((w.d + 1) * (w.d + 2)),
-    )
-
+-- Each step has one doubling and d additions.
 pub entries_doublings : (m : ℕ) (w : Walk) → Ready w → (bytes : List ℕ) (s : ℕ) → doublings (walk_entries w bytes s m) ≡ m
 unfolding walk_entries doublings
 entries_doublings zero w ready bytes s = refl

@@ -1,35 +1,30 @@
 // The public call `trace`.
-ghost use Rattle.ladder.specs.Plan.{plan_lent};
-ghost use Rattle.trace.specs.Promise.{TracePromise};
+ghost use Rattle.std.specs.Prelude.{◌≡◌};
+ghost use Rattle.ladder.specs.Refusals.{trace_refusal};
+ghost use Rattle.loose.specs.PlanOf.{plan_of};
+ghost use Rattle.refusal.specs.Answers.{refusal_of, answer_or};
+ghost use Rattle.trace.specs.Promise.{TracePromise, no_trace};
 
-use crate::steps::trace_steps;
-use judge::{Beside, loose_refusal, start_walk};
+use crate::steps::{Traced, trace_steps};
+use judge::{loose_refusal, start_walk};
+use loose::Plan;
+use refusal::Refusal;
+use refuse::{shape, trace_length};
 
-// What a trace answers: the refusal, and the doublings and the additions written, 0 where it refuses.
-#[derive(Clone, Copy)]
-pub struct Traced {
-    pub refusal: u64,
-    pub doublings: u64,
-    pub additions: u64,
+// The refusal of trace: 1, 2, 3, 5, 6.
+fn trace_refusal(plan: &Plan, out: &[u8]) -> Result<(), Refusal>
+    ensures { refusal_of result ≡ trace_refusal (plan_of plan.now) out.now }
+{
+    loose_refusal(plan, |d, l| shape(out.len(), trace_length(d, l)))
 }
 
-// The trace of a plan: for each step its doubling and its d additions, each x, y and the difference of the two rows.
-pub fn trace(d: u64, l: u64, start: &[u8], bits: &[u8], row: u64, out: &mut [u8]) -> Traced
-    ensures { TracePromise (plan_lent d l start.now bits.now row) out.old result out.new }
+// Writes the trace of a plan: for each step its doubling and its d additions, each x, y and the difference of the two rows. Where it
+// refuses (1, 2, 3, 5, 6), the buffer is as it came.
+#[tactic(auto, using(crate::proofs::Kept::starts))]
+pub fn trace(plan: &Plan, out: &mut [u8]) -> Result<Traced, Refusal>
+    ensures { TracePromise (plan_of plan.now) out.old (refusal_of result) (answer_or no_trace result) out.new }
 {
-    let refusal = loose_refusal(d, l, start, bits, row, Beside::Trace(out.len()));
-    if refusal != refuse::OK {
-        return Traced {
-            refusal,
-            doublings: 0,
-            additions: 0,
-        };
-    }
-    let w = start_walk(d, start);
-    let written = trace_steps(w, bits, 0, l, out);
-    Traced {
-        refusal,
-        doublings: written.doublings,
-        additions: written.additions,
-    }
+    trace_refusal(plan, out)?;
+    let start = start_walk(plan.d, plan.start);
+    Ok(trace_steps(start, plan.bits, plan.l, out))
 }

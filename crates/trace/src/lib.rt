@@ -6,4 +6,5 @@ mod call;
 mod entry;
 mod steps;
 
-pub use call::{Traced, trace};
+pub use call::trace;
+pub use steps::Traced;

@@ -1,19 +1,24 @@
--- From the walk's last state and the lower numbers in words to the entries of a row.
+-- From the plan's end order and the lower numbers in words to the entries of the answer row.
 -- Assumes nothing.
-use Rattle.std.proofs.Common.{◌≡◌, ℕ, zero, suc, pred, ◌+◌, ◌*◌, ◌%◌, ◌^◌, ◌<◌, ◌≤◌, List, [], ◌∷◌, map, length, get_or, take, drop, pos, sym, refl, ap, ◌∙◌, subst, ap₂, pow-suc, arith, take-append-drop, get_or-take, take-take}
+use Rattle.std.proofs.Common.{◌≡◌, ℕ, zero, suc, pred, ◌+◌, ◌-◌, ◌*◌, ◌%◌, ◌^◌, ◌<◌, ◌≤◌, List, [], ◌∷◌, map, length, get_or, take, drop, pos, sym, refl, ap, ◌∙◌, subst, ap₂, pow-suc, arith, sub-one, take-append-drop, get_or-take, take-take}
 use native.Mathlib.Nat.{mod-add-mod}
 use native.Mathlib.Decide.{dec_le}
 use lib.ListN.{get_or-eq_default}
 use Rattle.ladder.specs.Lists.{tabulate, count}
-use Rattle.ladder.specs.Matrix.{Arrangement, order_after, signs_after}
-use Rattle.ladder.specs.Numbers.{numbers_of, words_of_all, value_words, bits_at}
-use Rattle.ladder.specs.Walk.{Walk, order_of}
+use Rattle.ladder.specs.Matrix.{Arrangement, signs_after}
+use Rattle.ladder.specs.Numbers.{numbers_of, words_of_all, value_words}
+use Rattle.ladder.specs.Plan.{Plan, start_order, step_bits, end_order, answer_row, values_in}
+use Rattle.ladder.specs.Refusals.{decode_refusal}
 use Rattle.ladder.specs.Inner.Decoding.{walked, walked_entry}
-use Rattle.ladder.proofs.Lists.{get_or-map, length-tabulate, get_or-tabulate, tabulate-same, count-append}
+use Rattle.ladder.proofs.Decoding.{answer_by_walk}
+use Rattle.ladder.proofs.Demand2.{answer_wide}
+use Rattle.ladder.proofs.Lists.{get_or-map, length-tabulate, get_or-tabulate, tabulate-same, tabulate-get_or, count-append}
 use Rattle.ladder.proofs.Numbers.{numbers_of-words_of_all, value_fits, length-words_of_all}
+use Rattle.ladder.proofs.Operations.{decode_none}
+use Rattle.ladder.proofs.Refusals.{Accepted}
 use Rattle.ladder.proofs.Tests.{count-suc}
-use Rattle.bits.specs.Ready.{Ready, Columns}
-use Rattle.values.specs.Inner.{Lowered, Raisable, raised, walked_row}
+use Rattle.bits.specs.Ready.{Columns}
+use Rattle.values.specs.Inner.{Lowered, Raisable, raised}
 use Rattle.values.proofs.Words.{digit_small}
 
 -- ---- the number that a walk yields
@@ -28,7 +33,7 @@ walked_below d S f (suc n) j =
 -- ---- columns above a row
 
 -- The first d places of an order hold columns 1 to d.
-pub places_inside : (d : ℕ) (order : List ℕ) → d ≤ 8 → Columns d order → (i : ℕ) → i < d → (1 ≤ get_or order i 0) × (get_or order i 0 ≤ 8)
+places_inside : (d : ℕ) (order : List ℕ) → d ≤ 8 → Columns d order → (i : ℕ) → i < d → (1 ≤ get_or order i 0) × (get_or order i 0 ≤ 8)
 places_inside d order h c i b =
     let T = map pred (take d order) in
     let e : get_or order i 0 ≡ suc (get_or T i 0) =
@@ -55,64 +60,82 @@ counted_few d S a row j h =
 
 -- ---- the entries
 
-module _ {w : Walk} {l : ℕ} {bytes order values : List ℕ} (p : Lowered w l bytes order values)
-    (ready : Ready w) (row : ℕ) (inside : row ≤ w.d) (above : List ℕ)
+module _ {p : Plan} {order values : List ℕ} (done : Lowered p order values) (ok : Accepted p) (row : ℕ) (inside : row ≤ p.d) (above : List ℕ)
     (counts : (j : ℕ) → j < 8 → get_or above j 0 ≡ count (suc j) (take row order)) where
   abbrev N : ℕ → ℕ
-  N = walked w.d (order_of w) (bits_at w.d bytes) l
+  N = walked p.d (start_order p) (step_bits p) p.l
 
-  above_is : (j : ℕ) → j < w.d → get_or above j 0 ≡ count j (take row (order_after (order_of w) (bits_at w.d bytes) l))
+  above_is : (j : ℕ) → j < p.d → get_or above j 0 ≡ count j (take row (end_order p))
   above_is j h =
-      counts j (omega (arith, ready.high)) ∙ counted_above w.d order p.columns row j inside
-      ∙ ap (λ S. count j (take row S)) p.last
+      counts j (omega (arith, ok.d_high)) ∙ counted_above p.d order done.columns row j inside
+      ∙ ap (λ S. count j (take row S)) done.last
 
-  number_at : (j : ℕ) → get_or (tabulate w.d N) j 0 ≤ 2 ^ l
-  number_at j = go (dec_le (suc j) w.d)
+  number_at : (j : ℕ) → get_or (tabulate p.d N) j 0 ≤ 2 ^ p.l
+  number_at j = go (dec_le (suc j) p.d)
     where
-      go : Dec (j < w.d) → get_or (tabulate w.d N) j 0 ≤ 2 ^ l
+      go : Dec (j < p.d) → get_or (tabulate p.d N) j 0 ≤ 2 ^ p.l
       go (yes h) =
-          omega (arith, get_or-tabulate w.d N j 0 h, walked_below w.d (order_of w) (bits_at w.d bytes) l j)
-      go (no h) = omega (arith, get_or-eq_default (tabulate w.d N) 0 {n = j} (omega (arith, length-tabulate w.d N)))
+          omega (arith, get_or-tabulate p.d N j 0 h, walked_below p.d (start_order p) (step_bits p) p.l j)
+      go (no h) = omega (arith, get_or-eq_default (tabulate p.d N) 0 {n = j} (omega (arith, length-tabulate p.d N)))
 
-  numbers : numbers_of w.d (value_words l) values ≡ tabulate w.d N
+  numbers : numbers_of p.d (value_words p.l) values ≡ tabulate p.d N
   numbers =
-      ap (numbers_of w.d (value_words l)) p.lower
-      ∙ ap (λ n. numbers_of n (value_words l) (words_of_all (value_words l) (tabulate w.d N))) (sym (length-tabulate w.d N))
-      ∙ numbers_of-words_of_all (value_words l) (tabulate w.d N) (λ j. value_fits l (get_or (tabulate w.d N) j 0) (number_at j))
+      ap (numbers_of p.d (value_words p.l)) done.lower
+      ∙ ap (λ n. numbers_of n (value_words p.l) (words_of_all (value_words p.l) (tabulate p.d N))) (sym (length-tabulate p.d N))
+      ∙ numbers_of-words_of_all (value_words p.l) (tabulate p.d N) (λ j. value_fits p.l (get_or (tabulate p.d N) j 0) (number_at j))
 
-  number_is : (j : ℕ) → j < w.d → get_or (numbers_of w.d (value_words l) values) j 0 ≡ N j
-  number_is j h = ap (λ ns. get_or ns j 0) numbers ∙ get_or-tabulate w.d N j 0 h
+  number_is : (j : ℕ) → j < p.d → get_or (numbers_of p.d (value_words p.l) values) j 0 ≡ N j
+  number_is j h = ap (λ ns. get_or ns j 0) numbers ∙ get_or-tabulate p.d N j 0 h
 
-  raisable_words : l ≤ 576 → Raisable w.d (value_words l) above values
+  raisable : Raisable p.d (value_words p.l) above values
   unfolding value_words
-  raisable_words high = record {
-    d_high = ready.high;
+  raisable = record {
+    d_high = ok.d_high;
     k_low = omega arith;
-    k_high = omega arith;
-    long = ap length p.lower ∙ length-words_of_all (value_words l) (tabulate w.d N) ∙ ap (λ n. n * value_words l) (length-tabulate w.d N);
+    k_high = omega (arith, ok.l_high);
+    long = ap length done.lower ∙ length-words_of_all (value_words p.l) (tabulate p.d N) ∙ ap (λ n. n * value_words p.l) (length-tabulate p.d N);
     few = λ j h.
-        subst (λ n. n ≤ 1) (sym (counts j (omega (arith, ready.high)) ∙ counted_above w.d order p.columns row j inside))
-        (counted_few w.d (map pred (take w.d order)) p.columns.columns row j h);
+        subst (λ n. n ≤ 1) (sym (counts j (omega (arith, ok.d_high)) ∙ counted_above p.d order done.columns row j inside))
+        (counted_few p.d (map pred (take p.d order)) done.columns.columns row j h);
     room = λ j h.
-        subst (λ n. n + 1 < 2 ^ (64 * value_words l)) (sym (number_is j h))
-        (value_fits l (N j + 1) (omega (arith, walked_below w.d (order_of w) (bits_at w.d bytes) l j)));
+        subst (λ n. n + 1 < 2 ^ (64 * value_words p.l)) (sym (number_is j h))
+        (value_fits p.l (N j + 1) (omega (arith, walked_below p.d (start_order p) (step_bits p) p.l j)));
   }
 
-  raised_words : raised w.d (value_words l) above values ≡ walked_row w l bytes row
-  unfolding raised walked_row walked_entry
-  raised_words =
-      tabulate-same w.d
-      (λ j. get_or (numbers_of w.d (value_words l) values) j 0 + (get_or (numbers_of w.d (value_words l) values) j 0 % 2 + get_or above j 0) % 2)
-      (λ j. N j + (N j + count j (take row (order_after (order_of w) (bits_at w.d bytes) l))) % 2)
+  raised_row : row ≡ pred p.answer → raised p.d (value_words p.l) above values ≡ answer_row p
+  unfolding raised walked_entry
+  raised_row own =
+      tabulate-same p.d
+      (λ j. get_or (numbers_of p.d (value_words p.l) values) j 0 + (get_or (numbers_of p.d (value_words p.l) values) j 0 % 2 + get_or above j 0) % 2)
+      (λ j. get_or (answer_row p) j 0)
       (λ j h.
       ap₂ (λ a b. a + b) (number_is j h)
-      (ap₂ (λ a b. (a % 2 + b) % 2) (number_is j h) (above_is j h)
-      ∙ mod-add-mod (N j) 2 (count j (take row (order_after (order_of w) (bits_at w.d bytes) l)))))
+      (ap₂ (λ a b. (a % 2 + b) % 2) (number_is j h) (above_is j h ∙ ap (λ n. count j (take n (end_order p))) own)
+      ∙ mod-add-mod (N j) 2 (count j (take (pred p.answer) (end_order p))))
+      ∙ sym (answer_by_walk p ok j h))
+      ∙ ap (λ n. tabulate n (λ j. get_or (answer_row p) j 0)) (sym (answer_wide p ok))
+      ∙ tabulate-get_or (answer_row p) 0
 
-  -- The lower numbers, k words each, can be raised, and are the row then.
-  module _ (k : ℕ) (words : k ≡ value_words l) where
-    pub raisable : l ≤ 576 → Raisable w.d k above values
-    raisable high = subst (λ n. Raisable w.d n above values) (sym words) (raisable_words high)
+-- ---- a plan and a buffer that decode does not refuse
 
-    pub raised-row : words_of_all k (raised w.d k above values) ≡ words_of_all (value_words l) (walked_row w l bytes row)
-    raised-row = rw words (ap (words_of_all (value_words l)) raised_words)
+module _ (p : Plan) (values : List ℕ) (judged : decode_refusal p values ≡ 0) where
+  fine : Accepted p
+  fine = ((decode_none p values).0 judged).plan.plan
+
+  pub answer_in : (1 ≤ p.answer) × (p.answer - 1 ≤ p.d)
+  answer_in = (fine.answer_low, omega (arith, fine.answer_high))
+
+  module _ {order lower : List ℕ} (done : Lowered p order lower) {row : ℕ} (inside : row ≤ p.d) where
+    -- The places above a row hold columns ..
+    pub places : (row ≤ 8) × ((i : ℕ) → i < row → (1 ≤ get_or order i 0) × (get_or order i 0 ≤ 8))
+    places = (omega (arith, fine.d_high), λ i h. places_inside p.d order fine.d_high done.columns i (omega arith))
+
+    -- .. by their count the lower numbers, k words each, can be raised, and are the answer row then, where the row is its own.
+    module _ (above : List ℕ) (counts : (j : ℕ) → j < 8 → get_or above j 0 ≡ count (suc j) (take row order))
+        {k : ℕ} (words : k ≡ value_words p.l) where
+      pub raises : Raisable p.d k above lower
+      raises = subst (λ n. Raisable p.d n above lower) (sym words) (raisable done fine row inside above counts)
+
+      pub decodes : row ≡ p.answer - 1 → words_of_all k (raised p.d k above lower) ≡ values_in p
+      unfolding values_in
+      decodes own = rw words (ap (words_of_all (value_words p.l)) (raised_row done fine row inside above counts (own ∙ sub-one p.answer)))

@@ -6,4 +6,3 @@ pub mod Lowering
 pub mod Above
 pub mod Raising
 pub mod Answering
-pub mod Decoded

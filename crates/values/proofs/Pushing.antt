@@ -15,7 +15,7 @@ use Rattle.ladder.proofs.Walk.{length-bits_of, length-signs_after}
 use Rattle.ladder.proofs.WalkSteps.{turn_units}
 use Rattle.ladder.proofs.Writes.{sets_before}
 use Rattle.bits.specs.Ready.{Columns}
-use Rattle.bits.proofs.Filling.{Filling, filling_next}
+use Rattle.bits.proofs.Filling.{Filling, filling_next, filling_room}
 use Rattle.bits.proofs.Stepping.{places_step}
 use Rattle.values.specs.Inner.{pushed, Pushed}
 use Rattle.values.proofs.Words.{digit_small}
@@ -40,10 +40,18 @@ word_pushed w b v h e =
 -- ---- the loop over the places
 
 -- The place that is read lies in the order.
-pub place_read : (x k b d : ℕ) → b ≤ x → x + k < d + b → b < 2 → (x - b + k * (1 - b) < d) × (k * (1 - b) ≤ k)
+place_read : (x k b d : ℕ) → b ≤ x → x + k < d + b → b < 2 → (x - b + k * (1 - b) < d) × (k * (1 - b) ≤ k)
 place_read x k zero d l h q = (omega arith, omega arith)
 place_read x k (suc zero) d l h q = (omega arith, omega arith)
 place_read x k (suc (suc b)) d l h q = absurd (omega arith)
+
+-- What reading the place of bit b, the k-th, asks, and pushing the digit of the column there.
+pub record Room (old held : List ℕ) (x k b : ℕ) : Type 0 where
+  pub taken : b ≤ x
+  pub binary : b < 2
+  pub place : x - b + k * (1 - b) < 8
+  pub column_low : 1 ≤ get_or old (x - b + k * (1 - b)) 0
+  pub column_high : get_or old (x - b + k * (1 - b)) 0 - 1 < length held
 
 -- The new order, columns from 0.
 abbrev pub new_order : ℕ → List ℕ → ℕ → List ℕ
@@ -90,12 +98,20 @@ module _ {d : ℕ} {old : List ℕ} (small : d ≤ 8) (a : Columns d old) (n : �
     abbrev c : ℕ
     c = get_or old (x - b + k * (1 - b)) 0
 
-    -- The place holds a column from 1 to d ..
-    pub place_inside : (1 ≤ c) × (c - 1 < d) × (c ≤ 8)
-    place_inside =
-        let at = filled_column new (x - b) k c (filling_next d old n small p.filling h b e) p.eight h in
+    -- What is read lies in the order, and holds a column from 1 to d ..
+    pub pushing_room : Room old after x k b
+    pushing_room =
+        let bit = filling_room p.filling h in
+        let read = place_read x k b d (omega (arith, bit, e)) (omega (arith, bit, e)) (omega (arith, bit, e)) in
+        let column = filled_column new (x - b) k c (filling_next d old n small p.filling h b e) p.eight h in
         let inside = arrangement.inside k h in
-        (omega arith, omega arith, omega arith)
+        record {
+          taken = omega (arith, bit, e);
+          binary = omega (arith, bit, e);
+          place = omega arith;
+          column_low = omega arith;
+          column_high = omega (arith, p.long);
+        }
 
     -- .. whose word takes the digit.
     pub pushing_next : (v : ℕ) → v ≡ pushed b (get_or after (c - 1) 0)
@@ -123,7 +139,7 @@ module _ {d : ℕ} {old : List ℕ} (small : d ≤ 8) (a : Columns d old) (n : �
         at m l (yes o) =
             ap (λ i. get_or (set after (c - 1) v) (get_or S i 0) 0) o
             ∙ ap (λ i. get_or (set after (c - 1) v) i 0) (sym column)
-            ∙ get_or-set_same after (c - 1) v 0 (omega (arith, p.long, place_inside))
+            ∙ get_or-set_same after (c - 1) v 0 (omega (arith, pushing_room.column_high))
             ∙ q
             ∙ ap₂ pushed e (ap (λ i. get_or after i 0) column ∙ p.rest k (omega arith) h)
             ∙ ap (λ i. pushed (get_or (bits_of d n) i 0) (get_or held (get_or S i 0) 0)) (sym o)

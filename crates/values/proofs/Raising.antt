@@ -1,6 +1,6 @@
 -- From lower numbers to entries: values raised one by one.
 -- Assumes nothing.
-use Rattle.std.proofs.Common.{◌≡◌, ℕ, zero, suc, ◌+◌, ◌-◌, ◌*◌, ◌%◌, ◌^◌, ◌<◌, ◌≤◌, cond, ltb, ◌≢◌, List, [], ◌∷◌, ◌++◌, length, get_or, take, drop, set, sym, refl, ap, ◌∙◌, subst, ap₂, subst₂, append_assoc, le_of_suc-le-suc, not-suc-le-zero, add-zero, mul-le-mul_right, suc-mul, mul-le-mul, zero-mul, arith, length-drop, length-set, length-take-le, get_or-drop, get_or-set_other, get_or-set_same, take_at, ext_get_or, drop_at, le-ltb, lt-ltb, eq-eqb, ne_eqb}
+use Rattle.std.proofs.Common.{◌≡◌, ℕ, zero, suc, ◌+◌, ◌-◌, ◌*◌, ◌%◌, ◌^◌, ◌<◌, ◌≤◌, cond, ltb, ◌≢◌, List, [], ◌∷◌, ◌++◌, length, get_or, take, drop, set, sym, refl, ap, ◌∙◌, ap₂, append_assoc, le_of_suc-le-suc, not-suc-le-zero, add-zero, suc-mul, zero-mul, arith, length-set, get_or-set_other, get_or-set_same, take_at, ext_get_or, drop_at, le-ltb, lt-ltb, eq-eqb, ne_eqb, eqb}
 use mathlib.Core.List.{flatten}
 use borrow.Rule.Slice.PartMut.{put_mid, Post-is}
 use native.Mathlib.Decide.{ℕ_discrete, dec_le}
@@ -8,8 +8,8 @@ use lib.Seq.{take-append-add, drop-append-add}
 use Rattle.ladder.specs.Lists.{tabulate}
 use Rattle.ladder.specs.Numbers.{number_of, numbers_of, words_of, words_of_all}
 use Rattle.ladder.proofs.Lists.{length-tabulate, get_or-tabulate, tabulate-same, tabulate-get_or}
-use Rattle.ladder.proofs.Numbers.{length-words_of, number_of-words_of, length-words_of_all, length-numbers_of, words_of_all-numbers_of}
-use Rattle.values.specs.Inner.{OneRaisable, raised_one, Raisable, raised}
+use Rattle.ladder.proofs.Numbers.{length-words_of, number_of-words_of, words_of-number_of, length-numbers_of, words_of_all-numbers_of}
+use Rattle.values.specs.Inner.{raised_one, Raisable, raised}
 
 -- ---- the words of one value among many
 
@@ -89,66 +89,47 @@ raised-set d n x j h =
         ∙ get_or-tabulate d (λ i. n i + up_to j x i) i 0 b
         ∙ sym (get_or-tabulate d (λ i. n i + up_to (j + 1) x i) i 0 b ∙ ap (λ m. n i + m) (same_up_to x i j e))
 
--- Nothing to add: the value stays.
-raised_skip : (d : ℕ) (n x : ℕ → ℕ) (j : ℕ) → x j ≡ 0 → raised_to d n x j ≡ raised_to d n x (j + 1)
-raised_skip d n x j z =
-    tabulate-same d (λ i. n i + up_to j x i) (λ i. n i + up_to (j + 1) x i) (λ i h. ap (λ m. n i + m) (at i (ℕ_discrete i j)))
-  where
-    at : (i : ℕ) → Dec (i ≡ j) → up_to j x i ≡ up_to (j + 1) x i
-    at i (yes e) = to_do j x i (omega arith) ∙ sym (done (j + 1) x i (omega arith) ∙ ap x e ∙ z)
-    at i (no e) = sym (same_up_to x i j e)
-
 -- ---- one value raised
 
-span : (j k : ℕ) → j * k + k - j * k ≡ k
-span j k = omega arith
+-- The last digit of a number is that of its first word.
+first_word : (ws : List ℕ) → get_or ws 0 0 % 2 ≡ number_of ws % 2
+unfolding number_of
+first_word [] = refl
+first_word (w ∷ ws) = omega arith
 
-part_long : (k j : ℕ) (values : List ℕ) → j * k + k ≤ length values → length (take (j * k + k - j * k) (drop (j * k) values)) ≡ k
-part_long k j values h =
-    ap (λ n. length (take n (drop (j * k) values))) (span j k)
-    ∙ length-take-le k (drop (j * k) values) (omega (arith, length-drop (j * k) values))
-
--- The part that is lent can take one more.
-pub part_room : (k j : ℕ) (values : List ℕ) → OneRaisable k j values
-    → number_of (take (j * k + k - j * k) (drop (j * k) values)) + 1 < 2 ^ (64 * length (take (j * k + k - j * k) (drop (j * k) values)))
-part_room k j values p =
-    subst₂ (λ n m. number_of (take n (drop (j * k) values)) + 1 < 2 ^ (64 * m)) (sym (span j k)) (sym (part_long k j values p.inside)) p.room
-
-raised_by : (k j digit above : ℕ) (values : List ℕ) → digit ≢ above
-    → raised_one k j digit above values
-    ≡ take (j * k) values ++ (words_of k (number_of (take k (drop (j * k) values)) + 1) ++ drop (j * k + k) values)
+pub not_raised : (above : ℕ) (value : List ℕ) → ((i : ℕ) → get_or value i 0 < 2 ^ 64) → get_or value 0 0 % 2 ≡ above → value ≡ raised_one above value
 unfolding raised_one
-raised_by k j digit above values ne =
-    ap (λ t. cond t values (take (j * k) values ++ (words_of k (number_of (take k (drop (j * k) values)) + 1) ++ drop (j * k + k) values)))
-    (ne_eqb digit above ne)
-
--- The whole with the part one more.
-pub part_raised : (k j digit above : ℕ) (values part : List ℕ) → OneRaisable k j values → digit ≢ above
-    → part
-    ≡ words_of (length (take (j * k + k - j * k) (drop (j * k) values))) (number_of (take (j * k + k - j * k) (drop (j * k) values)) + 1)
-    → put_mid (j * k) (j * k + k - j * k) values part ≡ raised_one k j digit above values
-part_raised k j digit above values part p ne e =
-    ap₂ (λ m t. take (j * k) values ++ (m ++ t))
-    (e
-    ∙ ap₂ (λ n m. words_of n (number_of (take m (drop (j * k) values)) + 1)) (part_long k j values p.inside) (span j k))
-    (Post-is (j * k) (j * k + k) values (omega arith))
-    ∙ sym (raised_by k j digit above values ne)
-
-pub not_raised : (k j digit above : ℕ) (values : List ℕ) → digit ≡ above → values ≡ raised_one k j digit above values
-unfolding raised_one
-not_raised k j digit above values e =
+not_raised above value words e =
     sym
-    (ap (λ t. cond t values (take (j * k) values ++ (words_of k (number_of (take k (drop (j * k) values)) + 1) ++ drop (j * k + k) values)))
-    (eq-eqb digit above e))
+    (ap (λ t. words_of (length value) (number_of value + cond t 0 1)) (eq-eqb (number_of value % 2) above (sym (first_word value) ∙ e))
+    ∙ ap (words_of (length value)) (add-zero (number_of value))
+    ∙ words_of-number_of (length value) value refl words)
+
+pub one_raised : (above : ℕ) (value after : List ℕ) → get_or value 0 0 % 2 ≢ above → after ≡ words_of (length value) (number_of value + 1)
+    → after ≡ raised_one above value
+unfolding raised_one
+one_raised above value after ne e =
+    e
+    ∙ sym
+    (ap (λ t. words_of (length value) (number_of value + cond t 0 1))
+    (ne_eqb (number_of value % 2) above (λ q. ne (first_word value ∙ q))))
+
+-- Where a column stands above or not, what is added is 0 or 1.
+digit_added : (n above : ℕ) → above ≤ 1 → cond (eqb (n % 2) above) 0 1 ≡ (n % 2 + above) % 2
+digit_added n above h = go (ℕ_discrete (n % 2) above)
+  where
+    go : Dec (n % 2 ≡ above) → cond (eqb (n % 2) above) 0 1 ≡ (n % 2 + above) % 2
+    go (yes e) = ap (λ t. cond t 0 1) (eq-eqb (n % 2) above e) ∙ omega arith
+    go (no e) = ap (λ t. cond t 0 1) (ne_eqb (n % 2) above e) ∙ omega arith
+
+-- The words of a number that fits, raised.
+raised_words : (k n above : ℕ) → n < 2 ^ (64 * k) → above ≤ 1 → raised_one above (words_of k n) ≡ words_of k (n + (n % 2 + above) % 2)
+unfolding raised_one
+raised_words k n above fits h =
+    ap₂ (λ a m. words_of a (m + cond (eqb (m % 2) above) 0 1)) (length-words_of k n) (number_of-words_of k n fits)
+    ∙ ap (λ t. words_of k (n + t)) (digit_added n above h)
 
 -- ---- values raised one by one, under way
-
--- The last digit of a number is that of its first word.
-first_word : (k : ℕ) (ws : List ℕ) → 1 ≤ k → get_or ws 0 0 % 2 ≡ number_of (take k ws) % 2
-unfolding number_of
-first_word zero ws h = absurd (not-suc-le-zero h)
-first_word (suc k) [] h = refl
-first_word (suc k) (w ∷ ws) h = omega arith
 
 -- What is added to value i.
 abbrev pub added_to : List ℕ → List ℕ → ℕ → ℕ
@@ -159,77 +140,47 @@ pub record Raising (d k : ℕ) (above start values : List ℕ) (j : ℕ) : Type 
   pub inside : j ≤ d
   pub words : values ≡ words_of_all k (raised_to d (λ i. get_or (numbers_of d k start) i 0) (added_to (numbers_of d k start) above) j)
 
-module _ {d k : ℕ} {above start values : List ℕ} {j : ℕ} (p : Raising d k above start values j) where
-  long_now : length values ≡ d * k
-  long_now =
-      ap length p.words ∙ length-words_of_all k (raised_to d (λ i. get_or (numbers_of d k start) i 0) (added_to (numbers_of d k start) above) j)
-      ∙ ap (λ n. n * k) (length-tabulate d (λ i. get_or (numbers_of d k start) i 0 + up_to j (added_to (numbers_of d k start) above) i))
+module _ {d k : ℕ} {above start values : List ℕ} {j : ℕ} (p : Raising d k above start values j) (h : j < d) where
+  abbrev n : ℕ → ℕ
+  n i = get_or (numbers_of d k start) i 0
 
-  pub raising_long : length values ≡ length start
-  raising_long = long_now ∙ sym p.begun.long
+  abbrev x : ℕ → ℕ
+  x = added_to (numbers_of d k start) above
 
-  -- Value j is as it came.
-  part_now : j < d → take k (drop (j * k) values) ≡ words_of k (get_or (numbers_of d k start) j 0)
-  part_now h =
-      let R = raised_to d (λ i. get_or (numbers_of d k start) i 0) (added_to (numbers_of d k start) above) j in
-      ap (λ l. take k (drop (j * k) l)) p.words
-      ∙ part_of k R j (omega (arith, length-tabulate d (λ i. get_or (numbers_of d k start) i 0 + up_to j (added_to (numbers_of d k start) above) i)))
+  abbrev R : List ℕ
+  R = raised_to d n x j
+
+  fits : n j < 2 ^ (64 * k)
+  fits = omega (arith, p.begun.room j h)
+
+  -- The part that is lent holds value j as it came ..
+  lent_now : take (j * k + k - j * k) (drop (j * k) values) ≡ words_of k (n j)
+  lent_now =
+      let span : j * k + k - j * k ≡ k = omega arith in
+      ap₂ (λ m l. take m (drop (j * k) l)) span p.words
+      ∙ part_of k R j (omega (arith, length-tabulate d (λ i. n i + up_to j x i)))
       ∙ ap (words_of k)
-      (get_or-tabulate d (λ i. get_or (numbers_of d k start) i 0 + up_to j (added_to (numbers_of d k start) above) i) j 0 h
-      ∙ ap (λ m. get_or (numbers_of d k start) j 0 + m) (to_do j (added_to (numbers_of d k start) above) j (omega arith))
-      ∙ add-zero (get_or (numbers_of d k start) j 0))
+      (get_or-tabulate d (λ i. n i + up_to j x i) j 0 h ∙ ap (λ m. n j + m) (to_do j x j (omega arith)) ∙ add-zero (n j))
 
-  number_now : j < d → number_of (take k (drop (j * k) values)) ≡ get_or (numbers_of d k start) j 0
-  number_now h =
-      ap number_of (part_now h)
-      ∙ number_of-words_of k (get_or (numbers_of d k start) j 0) (omega (arith, p.begun.room j h))
-
-  -- Its last digit stands in its first word.
-  pub raising_digit : j < d → get_or values (j * k) 0 % 2 ≡ get_or (numbers_of d k start) j 0 % 2
-  raising_digit h =
-      ap (λ m. m % 2) (sym (get_or-drop (j * k) values 0 0 ∙ ap (λ i. get_or values i 0) (add-zero (j * k))))
-      ∙ first_word k (drop (j * k) values) p.begun.k_low ∙ ap (λ m. m % 2) (number_now h)
-
-  pub raising_room : j < d → OneRaisable k j values
-  raising_room h = record {
-    j_high = omega (arith, p.begun.d_high);
-    k_high = p.begun.k_high;
-    inside = omega (arith, long_now, mul-le-mul_right k h, suc-mul j k);
-    room = subst (λ n. n + 1 < 2 ^ (64 * k)) (sym (number_now h)) (p.begun.room j h);
-  }
-
-  -- Its first word lies in the buffer.
-  pub raising_word : j < d → (j * k < length values) × (j * k ≤ 80)
-  raising_word h =
-      let r = raising_room h in
-      let few : j ≤ 8 = omega (arith, r.j_high) in
-      (omega (arith, r.inside, p.begun.k_low), mul-le-mul few r.k_high)
+  -- .. which can take one more.
+  pub raising_room : (1 ≤ length (take (j * k + k - j * k) (drop (j * k) values)))
+      × (number_of (take (j * k + k - j * k) (drop (j * k) values)) + 1 < 2 ^ (64 * length (take (j * k + k - j * k) (drop (j * k) values))))
+  raising_room = rw (lent_now, length-words_of k (n j), number_of-words_of k (n j) fits) (p.begun.k_low, p.begun.room j h)
 
   -- Value j is done.
-  pub raising_next : j < d → (after : List ℕ)
-      → after ≡ raised_one k j (get_or (numbers_of d k start) j 0 % 2) (get_or above j 0) values → Raising d k above start after (j + 1)
-  raising_next h after e = record {
+  pub raising_next : (part : List ℕ) → part ≡ raised_one (get_or above j 0) (take (j * k + k - j * k) (drop (j * k) values))
+      → Raising d k above start (put_mid (j * k) (j * k + k - j * k) values part) (j + 1)
+  raising_next part e = record {
     begun = p.begun;
     inside = omega arith;
-    words = e ∙ next (ℕ_discrete (get_or (numbers_of d k start) j 0 % 2) (get_or above j 0));
+    words =
+        ap₂ (λ m t. take (j * k) values ++ (m ++ t))
+        (e ∙ ap (raised_one (get_or above j 0)) lent_now ∙ raised_words k (n j) (get_or above j 0) fits (p.begun.few j h))
+        (Post-is (j * k) (j * k + k) values (omega arith))
+        ∙ ap (λ l. take (j * k) l ++ (words_of k (n j + x j) ++ drop (j * k + k) l)) p.words
+        ∙ part_set k R j (n j + x j) (omega (arith, length-tabulate d (λ i. n i + up_to j x i)))
+        ∙ ap (words_of_all k) (raised-set d n x j h);
   }
-    where
-      n : ℕ → ℕ
-      n i = get_or (numbers_of d k start) i 0
-
-      next : Dec (get_or (numbers_of d k start) j 0 % 2 ≡ get_or above j 0)
-          → raised_one k j (get_or (numbers_of d k start) j 0 % 2) (get_or above j 0) values ≡ words_of_all k (raised_to d n (added_to (numbers_of d k start) above) (j + 1))
-      next (yes q) =
-          let z : added_to (numbers_of d k start) above j ≡ 0 = omega (arith, p.begun.few j h) in
-          sym (not_raised k j (get_or (numbers_of d k start) j 0 % 2) (get_or above j 0) values q)
-          ∙ p.words ∙ ap (words_of_all k) (raised_skip d n (added_to (numbers_of d k start) above) j z)
-      next (no q) =
-          let one : added_to (numbers_of d k start) above j ≡ 1 = omega (arith, p.begun.few j h) in
-          let R = raised_to d n (added_to (numbers_of d k start) above) j in
-          raised_by k j (get_or (numbers_of d k start) j 0 % 2) (get_or above j 0) values q
-          ∙ ap₂ (λ l m. take (j * k) l ++ (words_of k (m + 1) ++ drop (j * k + k) l)) p.words (number_now h)
-          ∙ part_set k R j (n j + 1) (omega (arith, length-tabulate d (λ i. n i + up_to j (added_to (numbers_of d k start) above) i)))
-          ∙ ap (words_of_all k) (ap (λ m. set R j (n j + m)) (sym one) ∙ raised-set d n (added_to (numbers_of d k start) above) j h)
 
 -- Before the first value.
 pub raising_starts : (d k : ℕ) (above values : List ℕ) → Raisable d k above values

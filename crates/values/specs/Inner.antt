@@ -1,12 +1,11 @@
 -- What the inner contracts of decoding by a walk need.
 -- Assumes nothing.
-use Rattle.std.specs.Prelude.{◌≡◌, ℕ, zero, suc, pred, ◌+◌, ◌*◌, ◌/◌, ◌%◌, ◌^◌, ◌<◌, ◌≤◌, cond, List, ◌++◌, map, length, take, drop, ◌==◌, slice_index, slice_set}
+use Rattle.std.specs.Prelude.{◌≡◌, ℕ, zero, suc, pred, ◌+◌, ◌*◌, ◌/◌, ◌%◌, ◌^◌, ◌<◌, ◌≤◌, cond, List, map, length, take, ◌==◌, slice_index, slice_set}
 use Rattle.ladder.specs.Lists.{tabulate}
-use Rattle.ladder.specs.Matrix.{order_after}
-use Rattle.ladder.specs.Numbers.{number_of, numbers_of, words_of, words_of_all, bits_length, value_words, bits_at}
-use Rattle.ladder.specs.Walk.{Walk, order_of}
-use Rattle.ladder.specs.Inner.Decoding.{walked, walked_entry}
-use Rattle.bits.specs.Ready.{Columns, Ready}
+use Rattle.ladder.specs.Numbers.{number_of, numbers_of, words_of, words_of_all, value_words}
+use Rattle.ladder.specs.Plan.{Plan, start_order, step_bits, end_order}
+use Rattle.ladder.specs.Inner.Decoding.{walked}
+use Rattle.bits.specs.Ready.{Columns}
 
 -- The words with word w of each of the first d values, k words each, replaced by the number held for its column.
 unfoldable pub stored : ℕ → ℕ → ℕ → List ℕ → List ℕ → List ℕ
@@ -26,32 +25,15 @@ pub record Pushed (d : ℕ) (S r held after : List ℕ) : Type 0 where
   pub long : length after ≡ d
   pub words : (k : ℕ) → k < d → slice_index after (slice_index S k) ≡ pushed (slice_index r k) (slice_index held (slice_index S k))
 
--- What the walk through all l steps asks: a walk state that can be stepped, l in range, and buffers of their lengths.
-pub record AtStart (w : Walk) (l : ℕ) (bytes values : List ℕ) : Type 0 where
-  pub ready : Ready w
-  pub l_low : 1 ≤ l
-  pub l_high : l ≤ 576
-  pub bits : length bytes ≡ bits_length w.d l
-  pub words : length values ≡ w.d * value_words l
+-- What the walk through a plan leaves: its end order, and each column's lower number in words.
+pub record Lowered (p : Plan) (order values : List ℕ) : Type 0 where
+  pub columns : Columns p.d order
+  pub last : map pred (take p.d order) ≡ end_order p
+  pub lower : values ≡ words_of_all (value_words p.l) (tabulate p.d (walked p.d (start_order p) (step_bits p) p.l))
 
--- What it leaves: the order after l steps, and each column's lower number in words.
-pub record Lowered (w : Walk) (l : ℕ) (bytes order values : List ℕ) : Type 0 where
-  pub columns : Columns w.d order
-  pub last : map pred (take w.d order) ≡ order_after (order_of w) (bits_at w.d bytes) l
-  pub lower : values ≡ words_of_all (value_words l) (tabulate w.d (walked w.d (order_of w) (bits_at w.d bytes) l))
-
--- Value j of k words can take one more.
-pub record OneRaisable (k j : ℕ) (values : List ℕ) : Type 0 where
-  pub j_high : j < 8
-  pub k_high : k ≤ 10
-  pub inside : j * k + k ≤ length values
-  pub room : number_of (take k (drop (j * k) values)) + 1 < 2 ^ (64 * k)
-
--- The words with value j one more where its digit and the count of its column differ.
-unfoldable pub raised_one : ℕ → ℕ → ℕ → ℕ → List ℕ → List ℕ
-raised_one k j digit above values =
-    cond (digit == above) values
-    (take (j * k) values ++ (words_of k (number_of (take k (drop (j * k) values)) + 1) ++ drop (j * k + k) values))
+-- The words of a value, one more where its last digit and the count of its column differ.
+unfoldable pub raised_one : ℕ → List ℕ → List ℕ
+raised_one above value = words_of (length value) (number_of value + cond (number_of value % 2 == above) 0 1)
 
 -- What raising asks: d values of k words, each of which can take one more, and a count for each column.
 pub record Raisable (d k : ℕ) (above values : List ℕ) : Type 0 where
@@ -66,9 +48,3 @@ pub record Raisable (d k : ℕ) (above values : List ℕ) : Type 0 where
 unfoldable pub raised : ℕ → ℕ → List ℕ → List ℕ → List ℕ
 raised d k above values =
     tabulate d (λ j. slice_index (numbers_of d k values) j + (slice_index (numbers_of d k values) j % 2 + slice_index above j) % 2)
-
--- The entries of row i (from 0) that a walk of l steps from w yields.
-unfoldable pub walked_row : Walk → ℕ → List ℕ → ℕ → List ℕ
-walked_row w l bytes i =
-    tabulate w.d
-    (λ j. walked_entry (walked w.d (order_of w) (bits_at w.d bytes) l j) i (order_after (order_of w) (bits_at w.d bytes) l) j)

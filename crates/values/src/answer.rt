@@ -1,21 +1,21 @@
 // The answer row, by a walk.
-ghost use Rattle.std.specs.Prelude.{◌≡◌, ◌≤◌};
-ghost use Rattle.ladder.specs.Numbers.{value_words, words_of_all};
-ghost use Rattle.walk.specs.WalkState.{walk_state};
-ghost use Rattle.values.specs.Inner.{AtStart, walked_row};
+ghost use Rattle.std.specs.Prelude.{◌≡◌};
+ghost use Rattle.ladder.specs.Plan.{values_in};
+ghost use Rattle.ladder.specs.Refusals.{decode_refusal};
+ghost use Rattle.loose.specs.PlanOf.{plan_of};
 
 use crate::lower::lower_values;
 use crate::rows::{columns_above, raise};
 use crate::stored::value_words;
-use walk::Walk;
+use loose::Plan;
 
-// Leaves in words the entries of a row (from 0) of the last matrix of the plan that starts with this walk state.
-pub fn answer_values(start: Walk, bits: &[u8], l: usize, row: usize, values: &mut [u64])
-    requires { (row ≤ (walk_state start).d) × AtStart (walk_state start) l bits.now values.old }
-    ensures { values.new ≡ words_of_all (value_words l) (walked_row (walk_state start) l bits.now row) }
+// Leaves in words the entries of the answer row of the plan's last matrix. The plan and the buffer were judged as decode judges them.
+pub fn decode_values(plan: &Plan, values: &mut [u64])
+    requires { decode_refusal (plan_of plan.now) values.old ≡ 0 }
+    ensures { values.new ≡ values_in (plan_of plan.now) }
 {
-    let d = start.d as usize;
-    let order = lower_values(start, bits, l, values);
+    let order = lower_values(plan, values);
+    let row = plan.row as usize - 1;
     let above = columns_above(order, row);
-    raise(values, d, value_words(l), above);
+    raise(values, plan.d as usize, value_words(plan.l as usize), above);
 }

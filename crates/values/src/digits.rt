@@ -8,11 +8,12 @@ ghost use Rattle.values.specs.Inner.{pushed, Pushed};
 use bits::{bit, ones_in};
 
 // A word with one digit more at its end: its last digit, turned where the bit is 1. The digit stands for the column's sign.
+#[tactic(auto, using(crate::proofs::Pushing::word_pushed))]
 fn push(word: u64, bit: u64) -> u64
     requires { bit ≤ 1 }
     ensures { result ≡ pushed bit word }
 {
-    std::num::wrapping_add_u64(word, word) + (word % 2 + bit) % 2
+    word.wrapping_add(word) + (word % 2 + bit) % 2
 }
 
 // The order after a step with the bits in r, as the walk has it; each column's word takes the digit of the step. The new order's
@@ -24,8 +25,7 @@ pub fn step_digits(old: [u8; 8], d: usize, r: u64, held: &mut [u64]) -> [u8; 8]
 {
     let mut new: [u8; 8] = [0; 8];
     let mut x = ones_in(d, r);
-    let mut k: usize = 0;
-    while k < d {
+    for k in 0..d {
         let b = bit(d, r, k);
         let one = b as usize;
         x -= one;
@@ -33,7 +33,6 @@ pub fn step_digits(old: [u8; 8], d: usize, r: u64, held: &mut [u64]) -> [u8; 8]
         new[k] = c;
         let j = c as usize - 1;
         held[j] = push(held[j], b);
-        k += 1;
     }
     new
 }

@@ -1,9 +1,9 @@
 // From the lower numbers to the entries of a row: of a number and the next, the one whose parity says whether the column stands
 // above the row.
-ghost use Rattle.std.specs.Prelude.{◌≡◌, ℕ, suc, ◌+◌, ◌*◌, ◌<◌, ◌≤◌, take, slice_index};
+ghost use Rattle.std.specs.Prelude.{◌≡◌, ℕ, suc, ◌+◌, ◌*◌, ◌^◌, ◌<◌, ◌≤◌, length, take, slice_index};
 ghost use Rattle.ladder.specs.Lists.{count};
-ghost use Rattle.ladder.specs.Numbers.{words_of_all};
-ghost use Rattle.values.specs.Inner.{Raisable, raised, OneRaisable, raised_one};
+ghost use Rattle.ladder.specs.Numbers.{number_of, words_of_all};
+ghost use Rattle.values.specs.Inner.{Raisable, raised, raised_one};
 
 use crate::stored::increment;
 
@@ -13,26 +13,20 @@ pub fn columns_above(order: [u8; 8], row: usize) -> [u64; 8]
     ensures { (j : ℕ) → j < 8 → slice_index result j ≡ count (suc j) (take row order) }
 {
     let mut above = [0u64; 8];
-    let mut i: usize = 0;
-    while i < row {
-        let c = order[i] as usize - 1;
-        above[c] = above[c] + 1;
-        i += 1;
+    for column in &order[..row] {
+        above[*column as usize - 1] += 1;
     }
     above
 }
 
-// Adds one to value j where its lowest bit, `digit`, is not `above`, which is 1 for a column that stands above the row, else 0.
-fn raise_one(values: &mut [u64], k: usize, j: usize, digit: u64, above: u64)
-    requires { OneRaisable k j values.old }
-    ensures { values.new ≡ raised_one k j digit above values.old }
+// Adds one to a value where its lowest bit is not `above`, which is 1 for a column that stands above the row, else 0.
+fn raise_one(value: &mut [u64], above: u64)
+    requires { (1 ≤ length value.old) × (number_of value.old + 1 < 2 ^ (64 * length value.old)) }
+    ensures { value.new ≡ raised_one above value.old }
 {
-    if digit == above {
-        return;
+    if value[0] % 2 != above {
+        increment(value);
     }
-    let from = j * k;
-    let to = from + k;
-    increment(&mut values[from..to]);
 }
 
 // Adds one to each value that is odd and whose column does not stand above the row, or even and it does.
@@ -40,10 +34,8 @@ pub fn raise(values: &mut [u64], d: usize, k: usize, above: [u64; 8])
     requires { Raisable d k above values.old }
     ensures { values.new ≡ words_of_all k (raised d k above values.old) }
 {
-    let mut j: usize = 0;
-    while j < d {
-        let digit = values[j * k] % 2;
-        raise_one(values, k, j, digit, above[j]);
-        j += 1;
+    // By hand: after a loop over chunks_exact_mut a proof knows no word of the values
+    for j in 0..d {
+        raise_one(&mut values[j * k..j * k + k], above[j]);
     }
 }

@@ -4,6 +4,7 @@ ghost use Rattle.ladder.specs.Numbers.{number_of, words_of, value_words};
 ghost use Rattle.values.specs.Inner.{stored, stored_then};
 
 // The words of one value: floor(l / 64) + 1.
+#[tactic(auto, unfolding(ladder::specs::Numbers::value_words))]
 pub fn value_words(l: usize) -> usize
     ensures { result ≡ value_words l }
 {
@@ -11,39 +12,38 @@ pub fn value_words(l: usize) -> usize
 }
 
 // Word w of each value becomes the word held for its column.
-pub fn store_words(held: &[u64], d: usize, k: usize, w: usize, values: &mut [u64])
-    requires { (d ≤ 8) × ((k ≤ 10) × ((w < k) × ((length held.now ≡ d) × (length values.old ≡ d * k)))) }
-    ensures { values.new ≡ stored d k w held.now values.old }
+#[tactic(auto, using(crate::proofs::Words::stored_next), unfolding(crate::specs::Inner::stored))]
+pub fn store_words(held: &[u64], k: usize, w: usize, values: &mut [u64])
+    requires { (w < k) × (length values.old ≡ length held.now * k) }
+    ensures { values.new ≡ stored (length held.now) k w held.now values.old }
 {
-    let mut j: usize = 0;
-    while j < d {
-        values[j * k + w] = held[j];
-        j += 1;
+    // By hand: after a loop over chunks_exact_mut a proof knows no word of the values
+    for (j, word) in held.iter().enumerate() {
+        values[j * k + w] = *word;
     }
 }
 
 // Where no digit of the current word is to come, the held words are full: they are stored.
-pub fn store_full(held: &[u64], d: usize, k: usize, left: usize, values: &mut [u64])
-    requires { (d ≤ 8) × ((k ≤ 10) × ((left / 64 < k) × ((length held.now ≡ d) × (length values.old ≡ d * k)))) }
-    ensures { values.new ≡ stored_then d k left held.now values.old }
+#[tactic(auto, unfolding(crate::specs::Inner::stored_then))]
+pub fn store_full(held: &[u64], k: usize, left: usize, values: &mut [u64])
+    requires { (left / 64 < k) × (length values.old ≡ length held.now * k) }
+    ensures { values.new ≡ stored_then (length held.now) k left held.now values.old }
 {
     if left % 64 == 0 {
-        store_words(held, d, k, left / 64, values);
+        store_words(held, k, left / 64, values);
     }
 }
 
 // One more, with the carry as far as it goes.
+#[tactic(auto, using(crate::proofs::Words::carry_starts, crate::proofs::Words::carry_ends))]
 pub fn increment(words: &mut [u64])
     requires { number_of words.old + 1 < 2 ^ (64 * length words.old) }
     ensures { words.new ≡ words_of (length words.old) (number_of words.old + 1) }
 {
-    let mut i: usize = 0;
-    while i < words.len() {
-        let next = std::num::wrapping_add_u64(words[i], 1);
-        words[i] = next;
-        if next != 0 {
+    for word in words {
+        *word = word.wrapping_add(1);
+        if *word != 0 {
             return;
         }
-        i += 1;
     }
 }

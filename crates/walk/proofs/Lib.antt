@@ -2,3 +2,4 @@
 pub mod Judged
 pub mod Unique
 pub mod Promised
+pub mod Kept

@@ -18,7 +18,6 @@ use Rattle.ladder.proofs.Refusals.{Accepted, walk_order_none}
 use Rattle.ladder.proofs.Operations.{StepOk, step_none}
 use Rattle.ladder.proofs.Demand3.{state_in}
 use Rattle.walk.specs.declared.state.Walk.{Walk}
-use Rattle.walk.specs.declared.step.Stepped.{Stepped}
 use Rattle.walk.specs.WalkState.{walk_state}
 use Rattle.walk.specs.Promise.{StepPromise}
 use Rattle.bits.proofs.PlanWalk.{ready_in}
@@ -26,20 +25,20 @@ use Rattle.walk.proofs.Unique.{same-walk}
 
 -- ---- step
 
-module _ {w : Walk} {bits : ℕ} {r : Stepped} (promise : StepPromise w bits r) where
+module _ {w : Walk} {bits refusal : ℕ} {walkAfter : Walk} (promise : StepPromise w bits refusal walkAfter) where
   -- Step's refusal is 0 exactly where the state and the number are what it asks ..
-  pub step_accepts : r.refusal ≡ 0 ↔ StepOk (walk_state w) bits
+  pub step_accepts : refusal ≡ 0 ↔ StepOk (walk_state w) bits
   step_accepts = subst (λ n. n ≡ 0 ↔ StepOk (walk_state w) bits) (sym promise.refusal_is) (step_none (walk_state w) bits)
 
   -- .. then the refusal is 0 and the state is the next one ..
-  pub step_accepted : StepOk (walk_state w) bits → (r.refusal ≡ 0) × (walk_state r.walk ≡ step_walk (walk_state w) bits)
+  pub step_accepted : StepOk (walk_state w) bits → (refusal ≡ 0) × (walk_state walkAfter ≡ step_walk (walk_state w) bits)
   step_accepted ok =
       let none = step_accepts.1 ok in
       (none, promise.walk_is ∙ refusing_no _ _ _ none)
 
   -- .. and on refusal it is the state that was handed in.
-  pub step_refused : r.refusal ≢ 0 → r.walk ≡ w
-  step_refused some = same-walk r.walk w (promise.walk_is ∙ refusing_yes _ _ _ some)
+  pub step_refused : refusal ≢ 0 → walkAfter ≡ w
+  step_refused some = same-walk walkAfter w (promise.walk_is ∙ refusing_yes _ _ _ some)
 
 -- ---- a plan's walk
 
@@ -66,11 +65,11 @@ module _ (p : Plan) (ok : Accepted p) where
       sym (ap (λ w. step_walk w (number_of_bits (step_bits p s))) (after s)) ∙ after (suc s)
 
   -- A walk that stands before step s of an accepted plan, stepped with that step's bits, stands before the next.
-  pub steps_along : (s : ℕ) (w : Walk) (r : Stepped) → walk_state w ≡ walk_of p.d (order_in p s) (signs_in p s)
-      → StepPromise w (number_of_bits (step_bits p s)) r
-      → (r.refusal ≡ 0) × (walk_state r.walk ≡ walk_of p.d (order_in p (suc s)) (signs_in p (suc s)))
+  pub steps_along : (s : ℕ) (w : Walk) (refusal : ℕ) (walkAfter : Walk) → walk_state w ≡ walk_of p.d (order_in p s) (signs_in p s)
+      → StepPromise w (number_of_bits (step_bits p s)) refusal walkAfter
+      → (refusal ≡ 0) × (walk_state walkAfter ≡ walk_of p.d (order_in p (suc s)) (signs_in p (suc s)))
   unfolding walk_of
-  steps_along s w r e promise =
+  steps_along s w refusal walkAfter e promise =
       let asked : StepOk (walk_of p.d (order_in p s) (signs_in p s)) (number_of_bits (step_bits p s)) = record {
         dimension = (ok.d_low, ok.d_high);
         walk = (walk_order_none _).0 (walk_ok_in s);
@@ -80,13 +79,13 @@ module _ (p : Plan) (ok : Accepted p) where
       (done.0, done.1 ∙ ap (λ v. step_walk v (number_of_bits (step_bits p s))) e ∙ step_in s)
 
   -- So the walk of the start order and signs +1, stepped n times with the plan's bits, holds the order and the signs before each
-  -- step and after the last, and no step refuses. Walk s is what stands before step s, and r s what that step answers.
-  pub walks_along : (w : ℕ → Walk) (r : ℕ → Stepped) (n : ℕ) → walk_state (w 0) ≡ walk_of p.d (start_order p) (start_signs p.d)
-      → ((s : ℕ) → s < n → StepPromise (w s) (number_of_bits (step_bits p s)) (r s)) → ((s : ℕ) → s < n → w (suc s) ≡ (r s).walk)
-      → ((s : ℕ) → s ≤ n → walk_state (w s) ≡ walk_of p.d (order_in p s) (signs_in p s)) × ((s : ℕ) → s < n → (r s).refusal ≡ 0)
+  -- step and after the last, and no step refuses. Walk s is what stands before step s, and refusal s that step's.
+  pub walks_along : (w : ℕ → Walk) (refusal : ℕ → ℕ) (n : ℕ) → walk_state (w 0) ≡ walk_of p.d (start_order p) (start_signs p.d)
+      → ((s : ℕ) → s < n → StepPromise (w s) (number_of_bits (step_bits p s)) (refusal s) (w (suc s)))
+      → ((s : ℕ) → s ≤ n → walk_state (w s) ≡ walk_of p.d (order_in p s) (signs_in p s)) × ((s : ℕ) → s < n → refusal s ≡ 0)
   unfolding order_in signs_in order_after signs_after
-  walks_along w r n begins promises next = (stands, λ s h. (steps_along s (w s) (r s) (stands s (omega arith)) (promises s h)).0)
+  walks_along w refusal n begins promises = (stands, λ s h. (steps_along s (w s) (refusal s) (w (suc s)) (stands s (omega arith)) (promises s h)).0)
     where
       stands : (s : ℕ) → s ≤ n → walk_state (w s) ≡ walk_of p.d (order_in p s) (signs_in p s)
       stands zero h = begins
-      stands (suc s) h = ap walk_state (next s h) ∙ (steps_along s (w s) (r s) (stands s (omega arith)) (promises s h)).1
+      stands (suc s) h = (steps_along s (w s) (refusal s) (w (suc s)) (stands s (omega arith)) (promises s h)).1

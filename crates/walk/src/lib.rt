@@ -2,9 +2,8 @@
 #![tactic(auto)]
 
 mod advance;
-mod refusal;
+mod judging;
 mod state;
 mod step;
 
 pub use state::Walk;
-pub use step::Stepped;

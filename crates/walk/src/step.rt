@@ -1,30 +1,20 @@
 // The public call `step`.
+ghost use Rattle.refusal.specs.Answers.{refusal_of, answer_or};
 ghost use Rattle.walk.specs.Promise.{StepPromise};
 
 use crate::advance::advance;
-use crate::refusal::step_refusal;
+use crate::judging::step_refusal;
 use crate::state::Walk;
-
-// What a step answers: the refusal, and the next walk state; where it refuses, the state that was handed in.
-#[derive(Clone, Copy)]
-pub struct Stepped {
-    pub refusal: u64,
-    pub walk: Walk,
-}
+use refusal::Refusal;
 
 impl Walk {
-    // One step of a paused walk, with the bits as one number, the first of weight 2^(d-1).
-    pub fn step(self, bits: u64) -> Stepped
-        ensures { StepPromise self bits result }
+    // One step of a paused walk, with the bits as one number, the first of weight 2^(d-1). It leaves the state that it is called on as it is:
+    // that is what the owner has on refusal (1, 5, 3).
+    #[tactic(auto, using(crate::proofs::Kept::kept_refused, crate::proofs::Kept::kept_accepted))]
+    pub fn step(self, bits: u64) -> Result<Walk, Refusal>
+        ensures { StepPromise self bits (refusal_of result) (answer_or self result) }
     {
-        let refusal = step_refusal(self, bits);
-        if refusal != refuse::OK {
-            return Stepped {
-                refusal,
-                walk: self,
-            };
-        }
-        let walk = advance(self, bits);
-        Stepped { refusal, walk }
+        step_refusal(self, bits)?;
+        Ok(advance(self, bits))
     }
 }

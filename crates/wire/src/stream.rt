@@ -1,44 +1,17 @@
 // An input, of which a part is held. From one number to the next is less than half of that part: where half of it has no number the
-// input is taken to end, and the place is the text's end from then on.
-ghost use Rattle.std.specs.Prelude.{◌≤◌, ◌<◌, ℕ, IfOk, OnErr, length, take};
+// input is taken to end, and the place is the end of that part.
+ghost use Rattle.std.specs.Prelude.{◌≡◌, ◌≤◌, ◌<◌, ℕ, IfOk, OnErr, length, take};
 ghost use Rattle.std.specs.Io.{ReadsAtMost};
 ghost use Rattle.std.specs.Io.KnownBytes.{Consumes, IsAtEnd};
 ghost use Rattle.wire.specs.Moved.{Loses};
+ghost use Rattle.wire.specs.declared.stream.TheConstants.{HELD};
 
 use crate::numbers;
 use std::io::{self, Read};
 
-fn least(a: usize, b: usize) -> usize
-    ensures { result ≤ b }
-{
-    if a < b { a } else { b }
-}
-
-// Moves what stands from a place on to the front; answers how much that is.
-fn shift(text: &mut [u8], from: usize) -> usize
-    requires { from ≤ length text.old }
-    ensures { result ≤ length text.old }
-{
-    let left = text.len() - from;
-    let mut i: usize = 0;
-    while i < left {
-        text[i] = text[from + i];
-        i += 1;
-    }
-    left
-}
-
-// Clears what stands from a place on, so that no digit is read twice.
-fn clear(text: &mut [u8], from: usize) {
-    let mut i = from;
-    while i < text.len() {
-        text[i] = 0;
-        i += 1;
-    }
-}
-
 // Reads until the room is full or the input ends; answers how many bytes that is. After an error the bytes that were read before it stand in
 // the room from its start on.
+// By hand: the library's `read_exact` takes an input that ends early for an error, and says nothing of what it had read.
 pub fn read_full<R: Read>(input: &mut R, room: &mut [u8]) -> io::Result<usize>
     ensures fits { ReadsAtMost result room.new }
     ensures bytes { IfOk result (λ n. Consumes (R.remaining input.old) (R.remaining input.new) (take n room.new)) }
@@ -56,57 +29,109 @@ pub fn read_full<R: Read>(input: &mut R, room: &mut [u8]) -> io::Result<usize>
     Ok(done)
 }
 
-// Once half of the text is read, the rest moves to the front and more is read behind it. Answers where reading goes on.
-pub fn refill<R: Read>(input: &mut R, text: &mut [u8], at: usize) -> io::Result<usize>
-    ensures { Loses (R.remaining input.old) (R.remaining input.new) }
-{
-    if at < text.len() / 2 {
-        return Ok(at);
-    }
-    let n = text.len();
-    let kept = shift(text, least(at, n));
-    clear(text, kept);
-    read_full(input, &mut text[kept..])?;
-    Ok(0)
+// How much is held.
+const HELD: usize = 65536;
+
+#[derive(Drop)]
+pub struct Input<R> {
+    pub reader: R,
+    held: [u8; HELD],
+    // where the next number is looked for
+    at: usize,
+    ghost within: { at ≤ HELD },
 }
 
-// The next numbers, as many as there is room for, as bytes; answers where the text goes on.
-pub fn bytes<R: Read>(
-    input: &mut R,
-    text: &mut [u8],
-    from: usize,
-    out: &mut [u8],
-) -> io::Result<usize>
-    ensures { Loses (R.remaining input.old) (R.remaining input.new) }
-{
-    let mut at = from;
-    let mut i: usize = 0;
-    while i < out.len() {
-        let held = refill(input, text, at)?;
-        let x = numbers::next(text, held);
-        at = x.next;
-        if at == text.len() {
-            return Ok(at);
+impl<R: Read> Input<R> {
+    // Nothing is read before the first refill.
+    pub fn new(reader: R) -> Input<R> {
+        Input {
+            reader,
+            held: [0; HELD],
+            at: HELD,
         }
-        out[i] = (x.value % 256) as u8;
-        i += 1;
     }
-    Ok(at)
-}
 
-// Passes over so many numbers, or to the end.
-pub fn pass<R: Read>(input: &mut R, text: &mut [u8], at: usize, count: u64) -> io::Result<usize>
-    ensures { Loses (R.remaining input.old) (R.remaining input.new) }
-{
-    let mut from = at;
-    let mut i = 0u64;
-    while i < count {
-        let held = refill(input, text, from)?;
-        from = numbers::next(text, held).next;
-        if from == text.len() {
-            return Ok(from);
+    // Once half of what is held is read, the rest moves to the front and more is read behind it. What stands there is cleared before, so
+    // that no digit is read twice.
+    pub fn refill(&mut self) -> io::Result<()>
+        ensures { Loses (R.remaining self.old.reader) (R.remaining self.new.reader) }
+    {
+        if self.at < HELD / 2 {
+            return Ok(());
         }
-        i += 1;
+        let kept = HELD - self.at;
+        self.held.copy_within(self.at.., 0);
+        self.held[kept..].fill(0);
+        self.at = 0;
+        read_full(&mut self.reader, &mut self.held[kept..])?;
+        Ok(())
     }
-    Ok(from)
+
+    // The next number of what is held, also one that its end cuts; none where it has no digit.
+    pub fn held_number(&mut self) -> Option<u64>
+        ensures { self.new.reader ≡ self.old.reader }
+    {
+        let Some((value, rest)) = numbers::next(&self.held[self.at..]) else {
+            self.at = HELD;
+            return None;
+        };
+        self.at = HELD - rest.len();
+        Some(value)
+    }
+
+    // The next number, where it stands whole in what is held.
+    pub fn number(&mut self) -> Option<u64>
+        ensures { self.new.reader ≡ self.old.reader }
+    {
+        let value = self.held_number()?;
+        if self.has_ended() { None } else { Some(value) }
+    }
+
+    // The same, after refilling.
+    fn next_number(&mut self) -> io::Result<Option<u64>>
+        ensures { Loses (R.remaining self.old.reader) (R.remaining self.new.reader) }
+    {
+        self.refill()?;
+        Ok(self.number())
+    }
+
+    // Whether all that is held is passed.
+    pub fn has_ended(&self) -> bool {
+        self.at == HELD
+    }
+
+    // The next numbers of what is held, as many as there is room for.
+    pub fn words(&mut self, out: &mut [u64]) -> Option<()>
+        ensures { self.new.reader ≡ self.old.reader }
+    {
+        for word in out {
+            *word = self.number()?;
+        }
+        Some(())
+    }
+
+    // The next numbers as bytes, as many as there is room for, or up to the end.
+    pub fn bytes(&mut self, out: &mut [u8]) -> io::Result<()>
+        ensures { Loses (R.remaining self.old.reader) (R.remaining self.new.reader) }
+    {
+        for byte in out {
+            let Some(value) = self.next_number()? else {
+                return Ok(());
+            };
+            *byte = (value % 256) as u8;
+        }
+        Ok(())
+    }
+
+    // Passes over so many numbers, or to the end.
+    pub fn pass(&mut self, count: u64) -> io::Result<()>
+        ensures { Loses (R.remaining self.old.reader) (R.remaining self.new.reader) }
+    {
+        for _ in 0..count {
+            if self.next_number()?.is_none() {
+                return Ok(());
+            }
+        }
+        Ok(())
+    }
 }

@@ -1,11 +1,7 @@
 -- `next_signs` meets its contract. The loop's invariant is `Turning`: the columns at the places passed have their new signs.
 -- Assumes nothing.
-use Prim.Native.Nat.{◌-◌}
 use Rattle.bits.proofs.Turning.{Turning}
 use Rattle.bits.proofs.signs.next_signs.Given as goal
 
 abbrev pub invariant-loop-k : goal.invariant-loop-k
 invariant-loop-k l = Turning l.d l.signs l.order l.r l.new l.k
-
-abbrev pub decreases-loop-k : goal.decreases-loop-k
-decreases-loop-k l = l.d - l.k

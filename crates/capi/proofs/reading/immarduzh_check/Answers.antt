@@ -11,5 +11,6 @@ as_number false = refl
 
 pub returns : goal.returns
 returns c =
-    let k = c.check-r in
-    record { said = k.result.yes; said_is = k.ensures; yes_is = as_number k.result.yes }
+    let said = c.parts-refusal.result.1 in
+    let parts = c.parts-refusal.ensures in
+    record { said = said; said_is = rw (parts.number, parts.value) c.check.ensures; yes_is = as_number said }

@@ -1,14 +1,10 @@
--- What the input has lost, it has lost by what is passed over, list after list.
+-- What the input has lost, it has lost by the lists so far and by the last.
 -- Assumes nothing.
 use Rattle.wire.proofs.Losing.{Loses-trans}
 use Rattle.conform.proofs.limit.refuse.Goals as goal
 
-pub returns-in_err-bits-clause-read : goal.returns-in_err-bits-clause-read
-returns-in_err-bits-clause-read g c = Loses-trans _ _ _ c.pass.ensures c.pass-2.ensures
+pub returns-in_err-pass-clause-read : goal.returns-in_err-pass-clause-read
+returns-in_err-pass-clause-read g c = Loses-trans _ _ _ c.loop-count.invariant c.pass.ensures
 
-pub returns-in_err-modulus-clause-read : goal.returns-in_err-modulus-clause-read
-returns-in_err-modulus-clause-read g c = Loses-trans _ _ _ (Loses-trans _ _ _ c.pass.ensures c.pass-2.ensures) c.pass-3.ensures
-
-pub returns-clause-read : goal.returns-clause-read
-returns-clause-read g c =
-    Loses-trans _ _ _ (Loses-trans _ _ _ (Loses-trans _ _ _ c.pass.ensures c.pass-2.ensures) c.pass-3.ensures) c.pass-4.ensures
+pub loop-count-preserved : goal.loop-count-preserved
+loop-count-preserved g c = Loses-trans _ _ _ c.loop-count.invariant c.pass.ensures

@@ -8,9 +8,6 @@ use Rattle.registers.proofs.ByModulus.{below_modulus}
 use Rattle.difference.proofs.Combining.{combining_start, combining_next, combining_end}
 use Rattle.difference.proofs.addition.difference_add.Goals as goal
 
-pub add-sum-requires : goal.add-sum-requires
-add-sum-requires c = let p = c.requires in (p.m_high, (p.register, p.register))
-
 pub loop-j-init : goal.loop-j-init
 loop-j-init c =
     let a = c.args in
@@ -28,10 +25,7 @@ times-requires c =
 pub add-sum-requires-in-loop-j : goal.add-sum-requires-in-loop-j
 add-sum-requires-in-loop-j c =
     let below : c.times.result < modulus c.args.m = rw c.times.ensures (below_modulus c.args.m _) in
-    (c.requires.m_high, (c.loop-j.invariant.below, below))
-
-pub loop-j-smaller : goal.loop-j-smaller
-loop-j-smaller c = omega arith
+    (c.loop-j.invariant.below, below)
 
 pub loop-j-preserved : goal.loop-j-preserved
 loop-j-preserved c =

@@ -1,18 +1,24 @@
--- `difference_run` keeps its promise: what is refused is answered with zeros (`run_kept_refused`), and what is not is left as it must be
--- (`run_kept`).
+-- `difference_run` keeps its promise: where nothing is refused, the difference steps can be made from the walk's start (`steps_ask`), and end
+-- in the registers that the plan's own rule defines (`ends_in`).
 -- Assumes nothing.
-use Rattle.std.proofs.Common.{sym, ◌∙◌}
-use Rattle.ladder.specs.Plan.{plan_lent}
-use Rattle.registers.proofs.Ran.{run_kept_refused, run_kept}
+use Rattle.std.proofs.Common.{◌≡◌, suc, pred, map, take, ◌∙◌, arith, rules}
+use Rattle.ladder.specs.Numbers.{bits_at}
+use Rattle.ladder.specs.Registers.{difference_rule, registers_after}
+use Rattle.loose.specs.PlanOf.{plan_of}
+use Rattle.registers.proofs.Ran.{asked}
+use Rattle.difference.proofs.Ran.{steps_ask, ends_in}
 use Rattle.difference.proofs.call.difference_run.Goals as goal
 
-pub returns-then-refusal-ne-OK : goal.returns-then-refusal-ne-OK
-returns-then-refusal-ne-OK c =
-    run_kept_refused (plan_lent c.args.d c.args.l c.args.start.now c.args.bits.now c.args.row) _ _ _ c.run_refusal-refusal.ensures c.if-refusal-ne-OK.true c.refused.ensures
-
-pub difference_accepted-requires : goal.difference_accepted-requires
-difference_accepted-requires c = sym c.run_refusal-refusal.ensures ∙ c.if-refusal-ne-OK.false
+pub run_by_steps-requires : goal.run_by_steps-requires
+run_by_steps-requires c none first begun =
+    let asks = steps_ask (asked none) (λ i. omega (arith, c.type_inv.elements i)) begun in
+    search (rules, asks)
 
 pub returns : goal.returns
-returns c =
-    run_kept (plan_lent c.args.d c.args.l c.args.start.now c.args.bits.now c.args.row) _ _ _ _ c.run_refusal-refusal.ensures c.if-refusal-ne-OK.false c.difference_accepted.ensures
+returns c = c.run_by_steps.ensures _ (λ none first end begun post.
+    let p = plan_of c.args.plan.now in
+    let asks = steps_ask (asked none) (λ i. omega (arith, c.type_inv.elements i)) begun in
+    let made : take (suc p.d) end.words
+    ≡ registers_after (difference_rule c.args.m c.args.elements.now) p.d (map pred p.start) (bits_at p.d p.bits) (take (suc p.d) first.words) p.l =
+    search (rules, asks) in
+    made ∙ ends_in (asked none) (λ i. omega (arith, c.type_inv.elements i)) begun)

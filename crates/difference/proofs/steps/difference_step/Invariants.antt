@@ -1,14 +1,9 @@
 -- `difference_step` meets its contract. The loop's invariant is `Stepping`: the new order, the new signs and the new registers, each as a loop
 -- of its own makes them.
 -- Assumes nothing.
-use Rattle.std.proofs.Common.{◌-◌}
-use Rattle.walk.specs.WalkState.{walk_state}
 use Rattle.difference.proofs.Stepping.{Stepping}
 use Rattle.difference.proofs.steps.difference_step.Given as goal
 
 abbrev pub invariant-loop-k : goal.invariant-loop-k
 invariant-loop-k l =
-    Stepping l.m (walk_state l.w) l.r l.elements l.old l.vector l.order l.signs l.new l.x l.k
-
-abbrev pub decreases-loop-k : goal.decreases-loop-k
-decreases-loop-k l = l.d - l.k
+    Stepping l.m l.w.d l.w.order l.w.signs l.r l.elements l.old l.vector l.order l.signs l.new l.x l.k

@@ -16,11 +16,6 @@ use Rattle.encode.proofs.Dealt.{rising, arranged_columns, dealt_parities}
 use Rattle.encode.proofs.Parting.{rearranged_twice}
 use Rattle.encode.proofs.order.house_order.Goals as goal
 
-pub deal-requires : goal.deal-requires
-deal-requires c =
-    let d = c.args.d in
-    arranged_columns d _ _ (omega arith) (rising d (omega arith)) (rising_arrangement d)
-
 pub deal-requires-2 : goal.deal-requires-2
 deal-requires-2 c =
     let d = c.args.d in

@@ -1,5 +1,4 @@
--- `rearrange` meets its contract. The loop's invariant is `Filled`: the columns from place `left` on are in the array. Rests on
--- its start, its step and its end.
+-- `rearrange` meets its contract. Rests on the start, the step and the end of `Filled`.
 -- Assumes nothing.
 use Prim.Native.Nat.{◌+◌, ◌-◌}
 use mathlib.Core.Path.{◌≡◌, refl, ◌∙◌}
@@ -22,7 +21,7 @@ loop-left-preserved c =
     let l = c.loop-left in
     let wide : length a.order ≡ 8 = search rules in (
       length-set (set l.out l.front _) (l.front + (l.left - 1)) _ ∙ length-set l.out l.front _ ∙ l.invariant.0,
-      one_more_filled a.order a.d a.r (omega arith) l.out l.left l.front (omega arith) (omega arith) (omega arith) l.invariant.1,
+      one_more_filled a.order a.d a.r (omega arith) l.out l.left (l.left - 1) l.front (omega arith) (omega arith) (omega arith) l.invariant.1,
     )
 
 pub returns : goal.returns

@@ -10,6 +10,3 @@ use Rattle.encode.proofs.order.rearrange.Given as goal
 abbrev pub invariant-loop-left : goal.invariant-loop-left
 invariant-loop-left l =
     (length l.out ≡ 8) × Filled l.d (take l.d l.order) (bits_of l.d l.r) l.left l.front (take l.d l.out)
-
-abbrev pub decreases-loop-left : goal.decreases-loop-left
-decreases-loop-left l = l.left

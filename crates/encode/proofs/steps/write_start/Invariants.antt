@@ -1,14 +1,10 @@
--- `write_start` meets its contract. The loop's invariant: the first k columns are written, counted from 1. Rests on
--- `counted_more`.
+-- `write_start` meets its contract. The loop's invariant: the first k columns are written, counted from 1.
 -- Assumes nothing.
-use Prim.Native.Nat.{suc, ◌≤◌, ◌-◌}
+use Prim.Native.Nat.{suc}
 use mathlib.Core.Path.{◌≡◌}
 use mathlib.Core.List.{map}
-use lib.ListN.{take, length}
+use lib.ListN.{take}
 use Rattle.encode.proofs.steps.write_start.Given as goal
 
 abbrev pub invariant-loop-k : goal.invariant-loop-k
-invariant-loop-k l = (l.k ≤ l.d) × (length l.start ≡ l.d) × (take l.k l.start ≡ map suc (take l.k l.order))
-
-abbrev pub decreases-loop-k : goal.decreases-loop-k
-decreases-loop-k l = l.d - l.k
+invariant-loop-k l = take l.k l.start ≡ map suc (take l.k l.order)

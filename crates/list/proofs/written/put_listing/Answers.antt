@@ -1,13 +1,16 @@
 -- `put_listing` meets its contract: the listing's own lines, or the line of its refusal (Listed).
 -- Assumes nothing.
+use Rattle.std.proofs.Common.{refl, arith}
+use Rattle.refusal.proofs.Laws.{number_positive}
 use Rattle.list.proofs.Listed.{line_fits, line_written, lines_written}
 use Rattle.list.proofs.written.put_listing.Goals as goal
 
 pub put_refused-requires : goal.put_refused-requires
-put_refused-requires c = line_fits c.listing-r.ensures c.requires c.if-r-ne-OK.true
+put_refused-requires c = line_fits c.in-Err.ensures c.requires (λ none. omega (arith, number_positive c.in-Err.refusal))
 
-pub returns-then-r-ne-OK : goal.returns-then-r-ne-OK
-returns-then-r-ne-OK c = line_written c.listing-r.ensures c.requires c.if-r-ne-OK.true c.put_refused.ensures
+pub returns-in-Ok : goal.returns-in-Ok
+returns-in-Ok c = lines_written c.in-Ok.ensures c.requires refl
 
-pub returns : goal.returns
-returns c = lines_written c.listing-r.ensures c.requires c.if-r-ne-OK.false
+pub returns-in-Err : goal.returns-in-Err
+returns-in-Err c =
+    line_written c.in-Err.ensures c.requires (λ none. omega (arith, number_positive c.in-Err.refusal)) c.put_refused.ensures.size c.put_refused.ensures.text

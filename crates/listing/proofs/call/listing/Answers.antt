@@ -1,50 +1,45 @@
--- `listing` keeps its promise: what is refused stays as it came, and of any other file the text of its plan is put at the buffer's start
--- (Answered).
+-- `listing` keeps its promise: a plan that a file holds can be listed, and its lines fit the buffer.
 -- Assumes nothing.
-use Prim.Native.Nat.{◌≤◌}
-use mathlib.Core.Path.{◌≡◌, sym, ap, ap₂, ◌∙◌}
-use native.Mathlib.Omega.{arith}
-use lib.Dec.{eqb, leb}
-use lib.ListN.{length}
+use Rattle.std.proofs.Common.{◌≡◌, ◌≤◌, length, sym, ap, ◌∙◌}
 use lib.Seq.{length-take-le}
+use Rattle.std.proofs.lemmas.Result.{err_from_is_err_and}
+use Rattle.ladder.specs.PlanFile.{plan_in}
 use Rattle.ladder.specs.Listing.{plan_text}
-use Rattle.ladder.specs.Refusals.{◌then◌, unless}
-use Rattle.listing.proofs.Answered.{answered_refused, answered, body_room, lent_plan, body_listable}
-use Rattle.listing.proofs.call.listing.Goals.{After-body-part, After-first-refusal}
+use Rattle.ladder.proofs.Operations.{ListingOk, listing_none}
+use Rattle.listing.proofs.Kept.{kept_refused, kept_accepted, listable, lines_fit}
+use Rattle.listing.proofs.call.listing.Goals.{In_ok-plan, After-text-listed}
 use Rattle.listing.proofs.call.listing.Goals as goal
 
--- The number is 10 for a long file, then 3 for another buffer, then unpack's.
-judged : (c : After-first-refusal)
-    → c.first-refusal.result
-    ≡ (unless (leb (length c.args.file.now) 4096) 10 then unless (eqb (length c.args.text.now) 8589) 3)
-    then c.unpack-u.result.refusal
-judged c =
-    let both = c.first-early.ensures ∙ ap₂ ◌then◌ c.big-long.ensures c.shape-room.ensures in
-    c.first-refusal.ensures ∙ ap (λ n. n then c.unpack-u.result.refusal) both
+-- Where nothing is refused, the file and the buffer are what the listing asks.
+asked : (c : In_ok-plan) → ListingOk c.args.file.now c.args.text.now
+asked c = (listing_none c.args.file.now c.args.text.now).0 (sym c.in_ok-plan.ensures.refusal)
 
-pub returns-then-refusal-ne-OK : goal.returns-then-refusal-ne-OK
-returns-then-refusal-ne-OK c = answered_refused _ _ c.unpack-u.ensures (judged (goal.at.returns-then-refusal-ne-OK c).After-first-refusal) c.if-refusal-ne-OK.true
+-- The lines are the text of the plan that the file holds ..
+lines : (c : After-text-listed) → c.text-listed.result.now ≡ plan_text (plan_in c.args.file.now)
+lines c = c.text-listed.ensures ∙ c.plan_lines-lines.ensures ∙ ap plan_text c.in_ok-plan.ensures.plan
 
--- The start order lies within the body.
-room : (c : After-body-part) → c.unpack-u.result.d ≤ length c.body-part.result.now
-room c = body_room _ c.args.text.now c.unpack-u.ensures (let both = c.first-early.ensures ∙ ap₂ ◌then◌ c.big-long.ensures c.shape-room.ensures in
-    c.first-refusal.ensures ∙ ap (λ n. n then c.unpack-u.result.refusal) both) (omega arith) c.body-part.ensures
+-- .. and fit the buffer.
+fits : (c : After-text-listed) → length c.text-listed.result.now ≤ length c.args.text.now
+fits c = lines_fit c.args.file.now c.args.text.now ((listing_none c.args.file.now c.args.text.now).0 (sym c.in_ok-plan.ensures.refusal)) _ (c.text-listed.ensures ∙ c.plan_lines-lines.ensures ∙ ap plan_text c.in_ok-plan.ensures.plan)
 
-pub slice_bounds-put_plan-end : goal.slice_bounds-put_plan-end
-slice_bounds-put_plan-end c = sym (length-take-le _ _ (room c))
+pub returns-in_err-plan : goal.returns-in_err-plan
+returns-in_err-plan c =
+    let gave = err_from_is_err_and c.from_residual.result c.from_residual.ensures.1 in
+    rw (gave.1, gave.2) (kept_refused _ _ _ c.in_err-plan.ensures.refusal)
 
-pub slice_bounds-put_plan-count : goal.slice_bounds-put_plan-count
-slice_bounds-put_plan-count c = room c
+pub plan_lines-lines-requires : goal.plan_lines-lines-requires
+plan_lines-lines-requires c = listable c.args.file.now c.args.text.now (asked (goal.at.plan_lines-lines-requires c).In_ok-plan) c.in_ok-plan.ensures.plan
 
-pub slice_bounds-put_plan-start : goal.slice_bounds-put_plan-start
-slice_bounds-put_plan-start c = room c
+pub slice_bounds-copy_from_slice-end : goal.slice_bounds-copy_from_slice-end
+slice_bounds-copy_from_slice-end c = fits c
 
-pub put_plan-length-requires : goal.put_plan-length-requires
-put_plan-length-requires c =
-    body_listable _ _ c.unpack-u.ensures (judged (goal.at.put_plan-length-requires c).After-first-refusal) (omega arith) c.body-part.ensures
+pub slice_bounds-copy_from_slice-end-2 : goal.slice_bounds-copy_from_slice-end-2
+slice_bounds-copy_from_slice-end-2 c = sym (length-take-le _ _ (fits (goal.at.slice_bounds-copy_from_slice-end-2 c).After-text-listed))
+
+pub copy_from_slice-requires : goal.copy_from_slice-requires
+copy_from_slice-requires c = length-take-le _ _ (fits (goal.at.copy_from_slice-requires c).After-text-listed)
 
 pub returns : goal.returns
 returns c =
-    let unpacked = c.unpack-u.ensures in
-    let none : c.first-refusal.result ≡ 0 = omega arith in
-    answered _ _ unpacked (judged (goal.at.returns c).After-first-refusal) none (ap plan_text (lent_plan _ c.args.text.now unpacked (judged (goal.at.returns c).After-first-refusal) none c.body-part.ensures)) c.put_plan-length.ensures
+    let put = kept_accepted c.args.file.now c.args.text.now c.text-listed.result.now c.in_ok-plan.ensures.refusal (lines (goal.at.returns c).After-text-listed) in
+    rw c.copy_from_slice.ensures.after put

@@ -1,44 +1,22 @@
--- `fields` meets its contract: two bytes make less than 65,536, so no sum wraps.
+-- `fields` meets its contract: the numbers are the trailer's.
 -- Assumes nothing.
-use Prim.Native.Nat.{◌≤◌}
-use mathlib.Core.Path.{refl}
-use native.Mathlib.Nat.{add-zero, add_assoc}
-use native.Mathlib.Omega.{arith}
-use lib.ListN.{length}
-use Rattle.ladder.specs.PlanFile.{trailer_byte, d_in, l_in, answer_in, distance_in, trailer_size}
-use Rattle.planfile.proofs.trailer.fields.Goals.{Start}
+use Rattle.std.proofs.Common.{◌≡◌, ℕ, ◌-◌, ◌≤◌, arith, length, get_or, take, drop, ◌∙◌}
+use Rattle.ladder.specs.PlanFile.{d_in, l_in, answer_in, distance_in, trailer_byte, trailer_size}
+use Rattle.planfile.proofs.Held.{trailer_at}
 use Rattle.planfile.proofs.trailer.fields.Goals as goal
 
-twelve : (s : Start) → 12 ≤ length s.args.file.now
-unfolding trailer_size
-twelve s = s.requires
-
-pub overflow_sub-at : goal.overflow_sub-at
-overflow_sub-at c = twelve (goal.at.overflow_sub-at c).Start
-
-pub bounds-file-at : goal.bounds-file-at
-bounds-file-at c = omega (arith, twelve (goal.at.bounds-file-at c).Start)
-
-pub bounds-file-at-2 : goal.bounds-file-at-2
-bounds-file-at-2 c = omega (arith, twelve (goal.at.bounds-file-at-2 c).Start)
-
-pub two_bytes-requires : goal.two_bytes-requires
-two_bytes-requires c = omega (arith, twelve (goal.at.two_bytes-requires c).Start)
-
-pub two_bytes-requires-2 : goal.two_bytes-requires-2
-two_bytes-requires-2 c = omega (arith, twelve (goal.at.two_bytes-requires-2 c).Start)
-
-pub two_bytes-requires-3 : goal.two_bytes-requires-3
-two_bytes-requires-3 c = omega (arith, twelve (goal.at.two_bytes-requires-3 c).Start)
-
-pub returns : goal.returns
-unfolding d_in answer_in l_in distance_in trailer_byte trailer_size
-returns c = (
-  refl,
-  record {
-    d_is = rw add-zero c.wide.ensures.0;
-    row_is = c.wide-2.ensures.0;
-    l_is = simp add_assoc at c.two_bytes.ensures.0;
-    distance_is = omega (arith, simp add_assoc at c.two_bytes-2.ensures.0, simp add_assoc at c.two_bytes-3.ensures.0);
-  },
-)
+pub invariant_of-result : goal.invariant_of-result
+unfolding d_in l_in answer_in distance_in trailer_size
+invariant_of-result c =
+    let file = c.args.file.now in
+    let long : 12 ≤ length file = c.requires in
+    let byte : (i : ℕ)
+    → (let from = length file - 12 in get_or (take (length file - from) (drop from file)) i 0 ≡ trailer_byte file i) = λ i. trailer_at file i long in
+    record {
+      read = record {
+        d_is = c.from.ensures ∙ byte 0;
+        l_is = omega (arith, c.from-2.ensures, c.from_le_bytes-l.ensures, byte 2, byte 3);
+        row_is = c.from-3.ensures ∙ byte 1;
+        distance_is = omega (arith, c.from-4.ensures, c.from_le_bytes-distance.ensures, byte 4, byte 5, byte 6, byte 7);
+      };
+    }

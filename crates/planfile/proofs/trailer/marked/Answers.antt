@@ -1,26 +1,14 @@
--- `marked` meets its contract: the mark is compared byte by byte (`same-mark`).
+-- `marked` meets its contract: what the library compares is what the rules do (`same_bytes`).
 -- Assumes nothing.
-use borrow.Author.Tests.{eq-eqb, ne_eqb}
-use Rattle.planfile.proofs.Marks.{same-mark}
-use borrow.Author.Rules.{rules}
+use Rattle.std.proofs.Common.{◌&&◌, ap, sym, ◌∙◌}
+use borrow.Author.Tests.{le-leb}
+use Rattle.ladder.specs.PlanFile.{trailer_size, mark_in, mark}
+use Rattle.ladder.specs.Refusals.{same_numbers}
+use Rattle.planfile.proofs.Marks.{same_bytes}
 use Rattle.planfile.proofs.trailer.marked.Goals as goal
 
-pub returns-then-file-at : goal.returns-then-file-at
-returns-then-file-at c =
-    let a = c.args in
-    rw (same-mark a.file.now a.mark (search rules) (search rules), ne_eqb _ _ c.if-file-at.true)
-
-pub returns-then-file-at-2 : goal.returns-then-file-at-2
-returns-then-file-at-2 c =
-    let a = c.args in
-    rw (same-mark a.file.now a.mark (search rules) (search rules), eq-eqb _ _ c.if-file-at.false, ne_eqb _ _ c.if-file-at-2.true)
-
-pub returns-then-file-at-3 : goal.returns-then-file-at-3
-returns-then-file-at-3 c =
-    let a = c.args in
-    rw (same-mark a.file.now a.mark (search rules) (search rules), eq-eqb _ _ c.if-file-at.false, eq-eqb _ _ c.if-file-at-2.false, ne_eqb _ _ c.if-file-at-3.true)
-
-pub returns : goal.returns
-returns c =
-    let a = c.args in
-    rw (same-mark a.file.now a.mark (search rules) (search rules), eq-eqb _ _ c.if-file-at.false, eq-eqb _ _ c.if-file-at-2.false, eq-eqb _ _ c.if-file-at-3.false)
+pub returns-then-file-ge-TRAILER_SIZE : goal.returns-then-file-ge-TRAILER_SIZE
+unfolding trailer_size mark_in mark
+returns-then-file-ge-TRAILER_SIZE c =
+    c.ends_with.ensures.value ∙ same_bytes _ _
+    ∙ ap (λ t. t && same_numbers (mark_in c.args.file.now) mark) (sym (le-leb _ _ c.if-file-ge-TRAILER_SIZE.true))

@@ -1,24 +1,13 @@
--- `unpack` keeps its promise: what the trailer says where nothing is refused, else zeros.
+-- `unpack` keeps its promise, on refusal and on accepted input.
 -- Assumes nothing.
-use mathlib.Core.Path.{sym, ◌∙◌}
-use Rattle.ladder.proofs.Tests.{refusing_no, refusing_yes}
+use Rattle.std.proofs.lemmas.Result.{err_from_is_err_and}
+use Rattle.planfile.proofs.Kept.{unpack_refused, unpack_accepted}
 use Rattle.planfile.proofs.unpacking.unpack.Goals as goal
 
-pub returns-then-refusal-ne-OK : goal.returns-then-refusal-ne-OK
-returns-then-refusal-ne-OK c = record {
-  refusal_is = c.judged-t.ensures.refusal;
-  d_is = sym (refusing_yes _ _ _ c.if-refusal-ne-OK.true);
-  l_is = sym (refusing_yes _ _ _ c.if-refusal-ne-OK.true);
-  row_is = sym (refusing_yes _ _ _ c.if-refusal-ne-OK.true);
-}
+pub returns-in_err-trailer : goal.returns-in_err-trailer
+returns-in_err-trailer c =
+    let gave = err_from_is_err_and c.from_residual.result c.from_residual.ensures.1 in
+    rw (gave.1, gave.2) (unpack_refused _ _ c.in_err-trailer.ensures.refusal)
 
 pub returns : goal.returns
-returns c =
-    let j = c.judged-t.ensures in
-    let f = j.fields c.if-refusal-ne-OK.false in
-    record {
-      refusal_is = j.refusal;
-      d_is = f.d_is ∙ sym (refusing_no _ _ _ c.if-refusal-ne-OK.false);
-      l_is = f.l_is ∙ sym (refusing_no _ _ _ c.if-refusal-ne-OK.false);
-      row_is = f.row_is ∙ sym (refusing_no _ _ _ c.if-refusal-ne-OK.false);
-    }
+returns c = unpack_accepted _ _ _ c.in_ok-trailer.ensures.refusal (rw c.in_ok-trailer.ensures.same at c.in_ok-trailer.trailer.read)

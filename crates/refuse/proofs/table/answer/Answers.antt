@@ -1,19 +1,23 @@
--- `answer` meets its contract: the two tests are those of the range 1 to d+1.
+-- `answer` meets its contract: the difference that the code forms says what the rules' range says.
 -- Assumes nothing.
-use mathlib.Core.Path.{sym}
-use native.Mathlib.Omega.{arith}
-use Rattle.ladder.specs.Refusals.{answer}
-use Rattle.refuse.proofs.Laws.{within_low, within_high, within_yes, unless_yes, unless_no}
+use Rattle.std.proofs.Common.{◌≡◌, ◌≤◌, ◌-◌, sym, ap, ◌∙◌, arith}
+use Rattle.std.specs.Prelude.{suc, not}
+use borrow.Author.Tests.{eq-eqb}
+use Rattle.ladder.specs.Refusals.{unless, within, ROW, answer}
+use Rattle.ladder.proofs.Tests.{leb_says, within_says, says_same, says_yes, says_no}
+use Rattle.refuse.proofs.table.answer.Goals.{then-row-ne0, else-row-ne0}
 use Rattle.refuse.proofs.table.answer.Goals as goal
-
-pub returns-then-row-eq0 : goal.returns-then-row-eq0
-unfolding answer
-returns-then-row-eq0 c = sym (unless_no _ _ (within_low _ _ _ (omega arith)))
-
-pub returns-then-d-row : goal.returns-then-d-row
-unfolding answer
-returns-then-d-row c = sym (unless_no _ _ (within_high _ _ _ (omega arith)))
 
 pub returns : goal.returns
 unfolding answer
-returns c = sym (unless_yes _ _ (within_yes _ _ _ (omega arith) (omega arith)))
+returns c =
+    let asked = within_says 1 (suc c.args.d) c.args.row in
+    let test : c.if-row-ne0.unless ≡ within 1 (suc c.args.d) c.args.row =
+    elim c.if-row-ne0.branch [
+      | then-row-ne0 w ↦ w.unless-is ∙ says_same asked (
+        λ low. let h : c.args.row - 1 ≤ c.args.d = (leb_says (c.args.row - 1) c.args.d).told (rw low tt) in (omega arith, omega arith),
+        λ t. sym (says_yes (leb_says (c.args.row - 1) c.args.d) (omega arith)),
+      )
+      | else-row-ne0 w ↦ w.unless-is ∙ ap not (eq-eqb _ _ w.if-row-ne0.false) ∙ says_no asked (λ t. omega arith)
+    ] in
+    c.unless.ensures ∙ ap (λ t. unless t ROW) test

@@ -7,4 +7,4 @@ use Rattle.scalars.proofs.in_words.bit.Goals as goal
 pub returns : goal.returns
 returns c =
     let a = c.args in
-    own_bit a.k a.scalars.now (λ i. omega (arith, c.shared_slice_known-1.given i)) a.j a.i c.requires.0
+    own_bit a.k a.scalars.now (λ i. omega (arith, c.type_inv.scalars i)) a.j a.i c.requires.0

@@ -1,7 +1,6 @@
 -- `gather` meets its contract. The loop goes from the last scalar to the first; its invariant: the bits of the scalars from j on
--- are gathered. Past the length of the scalars, which are below 2^l, every bit is 0.
+-- are gathered.
 -- Assumes nothing.
-use Prim.Native.Nat.{◌≤◌}
 use mathlib.Core.Path.{◌≡◌}
 use lib.ListN.{drop}
 use Rattle.ladder.specs.Numbers.{numbers_of}
@@ -9,7 +8,4 @@ use Rattle.scalars.specs.Inner.{gathered}
 use Rattle.scalars.proofs.in_words.gather.Given as goal
 
 abbrev pub invariant-loop-j : goal.invariant-loop-j
-invariant-loop-j l = (l.j ≤ l.d) × (l.bits ≡ gathered (drop l.j (numbers_of l.d l.k l.scalars)) l.i)
-
-abbrev pub decreases-loop-j : goal.decreases-loop-j
-decreases-loop-j l = l.j
+invariant-loop-j l = l.bits ≡ gathered (drop l.j (numbers_of l.d l.k l.scalars)) l.i

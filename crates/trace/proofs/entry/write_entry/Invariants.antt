@@ -1,12 +1,10 @@
--- `write_entry` meets its contract. The loop's invariant is `Writing`: the bytes that are left, written
--- behind what is there, make the entry.
+-- `write_entry` meets its contract: after j coefficients the bytes up to them are the entry's.
 -- Assumes nothing.
-use Prim.Native.Nat.{◌-◌}
-use Rattle.trace.proofs.Entries.{Writing}
+use Prim.Native.Nat.{◌+◌}
+use mathlib.Core.Path.{◌≡◌}
+use lib.ListN.{take}
+use Rattle.trace.proofs.Entries.{entry_so_far}
 use Rattle.trace.proofs.entry.write_entry.Given as goal
 
 abbrev pub invariant-loop-j : goal.invariant-loop-j
-invariant-loop-j l = Writing l.d l.vector l.at l.initial.out l.out l.j
-
-abbrev pub decreases-loop-j : goal.decreases-loop-j
-decreases-loop-j l = l.d - l.j
+invariant-loop-j l = take (l.j + 2) l.out ≡ entry_so_far l.x l.y l.vector l.j

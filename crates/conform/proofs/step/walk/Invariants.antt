@@ -1,7 +1,0 @@
--- `conform::step::walk` ends: less of the eight places is left.
--- Assumes nothing.
-use Rattle.std.proofs.Common.{◌-◌}
-use Rattle.conform.proofs.step.walk.Given as goal
-
-abbrev pub decreases-loop-i : goal.decreases-loop-i
-decreases-loop-i l = 8 - l.i

@@ -1,2 +1,0 @@
--- Laws of lent bytes.
-pub mod Copied

@@ -1,0 +1,2 @@
+-- What the contracts of calls on plans cite.
+pub mod PlanOf

@@ -1,0 +1,2 @@
+-- Laws of answers.
+pub mod Laws

@@ -1,0 +1,3 @@
+-- What the promises of the calls say of answers.
+pub mod Answers
+pub mod Words

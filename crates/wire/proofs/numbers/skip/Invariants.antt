@@ -1,7 +1,0 @@
--- `wire::numbers::skip` ends: each time less of the text is left.
--- Assumes nothing.
-use Rattle.std.proofs.Common.{◌-◌, length}
-use Rattle.wire.proofs.numbers.skip.Given as goal
-
-abbrev pub decreases-loop-i : goal.decreases-loop-i
-decreases-loop-i l = length l.s - l.i
