@@ -53,7 +53,7 @@ pub extern "C" fn immarduzh_body(file: &[u8], offset: &mut u64, length: &mut u64
     match plan::unpack(file) {
         Ok(_) => {
             *offset = (file.len() - TRAILER_SIZE - size) as u64;
-            0
+            plan::OK
         }
         Err(refusal) => {
             *offset = 0;

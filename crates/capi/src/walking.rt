@@ -1,11 +1,24 @@
 // Step and trace.
+ghost use Rattle.std.specs.Prelude.{◌≡◌};
 ghost use Rattle.ladder.specs.Plan.{plan_lent};
 ghost use Rattle.walk.specs.Promise.{StepPromise};
+ghost use Rattle.walk.specs.Stepped.{step_number, walk_answered};
 ghost use Rattle.trace.specs.Promise.{TracePromise};
 ghost use Rattle.capi.specs.Answers.{walk, traced};
 
-use plan::{Plan, Traced, Walk};
+use plan::{Plan, Traced, Unstepped, Walk};
 use refusal::parts;
+
+// The number of a step's answer, and the walk state in it.
+fn stepped(answer: Result<Walk, Unstepped>) -> (u64, Walk)
+    ensures number { result.0 ≡ step_number answer }
+    ensures walk { result.1 ≡ walk_answered answer }
+{
+    match answer {
+        Ok(next) => (plan::OK, next),
+        Err(unstepped) => (unstepped.refusal.number(), unstepped.walk),
+    }
+}
 
 // One step of a paused walk, whose order and signs are stepped in place.
 #[unsafe(no_mangle)]
@@ -17,7 +30,7 @@ pub extern "C" fn immarduzh_step(d: u64, order: &mut [u8; 8], signs: &mut [i8; 8
         order: *order,
         signs: *signs,
     };
-    let (refusal, next) = parts(w.step(bits), w);
+    let (refusal, next) = stepped(w.step(bits));
     // by variables: an array that is part of another value may not be stored straight (not covered)
     let places = next.order;
     let turned = next.signs;

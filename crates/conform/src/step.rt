@@ -1,7 +1,6 @@
 // One line per step of a paused walk, whose order and signs a request has for start and bits.
 use crate::Answer;
-use plan::{Refusal, Walk};
-use refusal::parts;
+use plan::{Unstepped, Walk};
 use std::array;
 use std::fmt::{self, Display, Formatter, Write};
 use wire::show::Bytes;
@@ -26,10 +25,13 @@ impl Display for State {
     }
 }
 
-// What a step of a walk answered: on refusal the walk stands as it was.
-fn stepped(walk: Walk, answer: Result<Walk, Refusal>, line: &mut Answer) -> fmt::Result {
-    let (refusal, next) = parts(answer, walk);
-    write!(line, ": refusal {refusal} walk {}", State(next))
+// What a step of a walk answered: on refusal the state that it hands back.
+fn stepped(answer: Result<Walk, Unstepped>, line: &mut Answer) -> fmt::Result {
+    let (refusal, walk) = match answer {
+        Ok(next) => (plan::OK, next),
+        Err(unstepped) => (unstepped.refusal.number(), unstepped.walk),
+    };
+    write!(line, ": refusal {refusal} walk {}", State(walk))
 }
 
 pub fn step(d: u64, order: &[u8], signs: &[u8], bits: u64, line: &mut Answer) -> fmt::Result {
@@ -40,5 +42,5 @@ pub fn step(d: u64, order: &[u8], signs: &[u8], bits: u64, line: &mut Answer) ->
         signs,
     };
     write!(line, "step {} by {bits}", State(walk))?;
-    stepped(walk, walk.step(bits), line)
+    stepped(walk.step(bits), line)
 }

@@ -30,6 +30,10 @@ module _ {file text : List ℕ} {refusal size : ℕ} {after : List ℕ} (promise
     unfolding listing_text
     line_is = ap refused_text number_is ∙ sym (refusing_yes (list_refusal file) _ _ (λ z. some (number_is ∙ z)))
 
+    -- .. the buffer is as long as it was ..
+    pub room_kept : length after ≡ longest_text
+    room_kept = ap length (listing_refused promise some).1 ∙ room
+
     -- .. its line fits ..
     pub line_fits : length (refused_text refusal) ≤ length after
     line_fits = omega (arith, ap length line_is, listing_fits file, room, ap length (listing_refused promise some).1)

@@ -10,7 +10,7 @@ use text::refused_line;
 
 // Puts the line `refused` and the number at the start of the buffer, and answers how many bytes that is.
 fn put_refused(refusal: Refusal, text: &mut [u8]) -> usize
-    requires { length (refused_text (number refusal)) ≤ length text.old }
+    requires { length text.old ≡ longest_text }
     ensures size { result ≡ length (refused_text (number refusal)) }
     ensures text { text.new ≡ refused_text (number refusal) ++ drop result text.old }
 {

@@ -1,6 +1,6 @@
 -- The listing's promise is kept on refusal and on an accepted file.
 -- Assumes nothing.
-use Rattle.std.proofs.Common.{◌≡◌, ℕ, List, ◌++◌, length, drop, refl, ap, ◌∙◌, ◌≤◌, arith}
+use Rattle.std.proofs.Common.{◌≡◌, ◌+◌, ℕ, List, [], ◌++◌, length, drop, refl, ap, ◌∙◌, ◌≤◌, arith}
 use Rattle.ladder.specs.PlanFile.{plan_in}
 use Rattle.ladder.specs.Listing.{plan_text}
 use Rattle.ladder.specs.Plan.{Plan}
@@ -41,7 +41,11 @@ module _ (file text : List ℕ) where
       rw e
       (ap (plan_refusal (plan_in file)) (none_then (plan_shape (plan_in file)) 0 (held_shape file ok.unpack) refl) ∙ accept (plan_in file) ok.unpack.plan)
 
-  -- .. and its lines fit the buffer.
+  -- .. and its lines have room where there are none yet ..
+  pub lines_room : ListingOk file text → {p : Plan} → p ≡ plan_in file → (start : List ℕ) → start ≡ [] → length start + length (plan_text p) ≤ longest_text
+  lines_room ok e start none = omega (arith, ap length none, ap (λ p. length (plan_text p)) e, plan_text_fits (plan_in file) ok.unpack.plan)
+
+  -- .. and fit the buffer.
   pub lines_fit : ListingOk file text → (lines : List ℕ) → lines ≡ plan_text (plan_in file) → length lines ≤ length text
   unfolding longest_text
   lines_fit ok lines e = omega (arith, ap length e, plan_text_fits (plan_in file) ok.unpack.plan, ok.text_long)

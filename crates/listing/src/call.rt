@@ -10,7 +10,7 @@ use loose::Plan;
 use planfile::held_plan;
 use refusal::Refusal;
 use refuse::{shape, unless};
-use text::{LONGEST_TEXT, plan_lines};
+use text::{LONGEST_TEXT, Lines};
 
 // The longest file that is listed.
 pub const LONGEST_FILE: usize = 4096;
@@ -33,7 +33,8 @@ pub fn listing(file: &[u8], text: &mut [u8]) -> Result<usize, Refusal>
     ensures { ListingPromise file.now text.old (refusal_of result) (answer_or 0 result) text.new }
 {
     let plan = listed_plan(file, text)?;
-    let lines = plan_lines(&plan);
+    let mut lines = Lines::new();
+    lines.plan_lines(&plan);
     let listed = lines.text();
     let length = listed.len();
     text[..length].copy_from_slice(listed);

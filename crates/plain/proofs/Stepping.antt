@@ -186,8 +186,7 @@ running_end {m} {d} {l} {bytes} {start} {regs} {s} t h S =
 
 -- After a last single step.
 pub running_last : {m d l : ℕ} {bytes start regs : List ℕ} {s : ℕ} → PlainRunning m d l bytes start regs s → l ≡ s + 1
-    → {n : ℕ} → ReadBits d (l - 1) bytes n → {next : List ℕ} → next ≡ map (plain_sum m regs) (operations (bits_of d n))
+    → (i : ℕ) → i ≡ s → {n : ℕ} → ReadBits d i bytes n → {next : List ℕ} → next ≡ map (plain_sum m regs) (operations (bits_of d n))
     → (S : List ℕ) → next ≡ registers_after (plain_rule m) d S (bits_at d bytes) start l
-running_last {m} {d} {l} {bytes} {start} {regs} {s} r e {n} read made =
-    let here : l - 1 ≡ s = omega arith in
+running_last {m} {d} {l} {bytes} {start} {regs} {s} r e i here {n} read made =
     running_end (running_next r (omega arith) n (subst (λ i. ReadBits d i bytes n) here read) _ made) (omega arith)

@@ -32,13 +32,15 @@ fn steps_in_pairs(m: Modulus, d: usize, l: usize, bits: &[u8], regs: &mut [u64],
     requires { PlainSteps m d l bits.now regs.old × (length other.old ≡ suc d) }
     ensures { (S : List ℕ) → regs.new ≡ registers_after (plain_rule m) d S (bits_at d bits.now) regs.old l }
 {
-    for pair in 0..l / 2 {
+    let pairs = l / 2;
+    for pair in 0..pairs {
         let s = 2 * pair;
         plain_step(m, d, step_bits(bits, d, s), regs, other);
         plain_step(m, d, step_bits(bits, d, s + 1), other, regs);
     }
-    if l % 2 == 1 {
-        plain_step(m, d, step_bits(bits, d, l - 1), regs, other);
+    let last = 2 * pairs;
+    if last < l {
+        plain_step(m, d, step_bits(bits, d, last), regs, other);
         regs.copy_from_slice(other);
     }
 }

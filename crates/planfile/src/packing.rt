@@ -1,5 +1,5 @@
 // The public call `pack`: a plan written as a file, with nothing before its body.
-ghost use Rattle.std.specs.Prelude.{◌≡◌, ◌-◌, ◌%◌, ◌^◌, ◌<◌};
+ghost use Rattle.std.specs.Prelude.{◌≡◌, ◌-◌, ◌%◌, ◌^◌, ◌<◌, length};
 ghost use Rattle.ladder.specs.PlanFile.{file_of};
 ghost use Rattle.ladder.specs.Refusals.{pack_refusal};
 ghost use Rattle.loose.specs.PlanOf.{plan_of};
@@ -20,6 +20,16 @@ fn cleared(byte: u8, n: usize) -> u8
     byte - byte % (1u8 << n)
 }
 
+// Copies bytes. By hand: with the library's `copy_from_slice`, of slices that are lent, the archive for C would need `memmove` from outside.
+fn copy(from: &[u8], to: &mut [u8])
+    requires { length to.old ≡ length from.now }
+    ensures { to.new ≡ from.now }
+{
+    for (i, byte) in to.iter_mut().enumerate() {
+        *byte = from[i];
+    }
+}
+
 // Start order, bits with 0 for filling, and the trailer.
 #[tactic(auto, using(crate::proofs::Laid::sizes))]
 fn write_file(plan: &Plan, file: &mut [u8])
@@ -31,8 +41,8 @@ fn write_file(plan: &Plan, file: &mut [u8])
     let filling = 8 * bytes - plan.l as usize * d;
     let (start, rest) = file.split_at_mut(d);
     let (bits, trailer) = rest.split_at_mut(bytes);
-    start.copy_from_slice(plan.start);
-    bits.copy_from_slice(plan.bits);
+    copy(plan.start, start);
+    copy(plan.bits, bits);
     bits[bytes - 1] = cleared(bits[bytes - 1], filling);
     trailer.copy_from_slice(&trailer_of(plan, d + bytes));
 }

@@ -86,5 +86,6 @@ pub fn held_plan(file: &[u8]) -> Result<Plan<'_>, Refusal>
     ensures refusal { refusal_of result ≡ unpack_refusal file.now }
     ensures plan { IfOk result (λ p. plan_of p ≡ plan_in file.now) }
 {
-    Ok(judged(file)?.plan())
+    let trailer = judged(file)?;
+    Ok(trailer.plan())
 }

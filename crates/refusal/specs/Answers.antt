@@ -23,7 +23,7 @@ abbrev pub refusal_of : {A : Type 0} → Result A Refusal → ℕ
 refusal_of (Ok value) = 0
 refusal_of (Err refusal) = number refusal
 
--- The value of an answer: on refusal the first argument, which is 0, no, or the walk state handed in.
+-- The value of an answer: on refusal the first argument, which is 0 or no.
 abbrev pub answer_or : {A : Type 0} → A → Result A Refusal → A
 answer_or none (Ok value) = value
 answer_or none (Err refusal) = none

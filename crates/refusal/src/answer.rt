@@ -2,7 +2,7 @@
 ghost use Rattle.std.specs.Prelude.{◌≡◌};
 ghost use Rattle.refusal.specs.Answers.{refusal_of, answer_or};
 
-use crate::Refusal;
+use crate::{OK, Refusal};
 
 // The number of an answer, 0 where nothing is refused, and its value, or what stands for it on refusal: for those who tell both, as the
 // calls for C do.
@@ -11,7 +11,7 @@ pub fn parts<T: Copy>(answer: Result<T, Refusal>, none: T) -> (u64, T)
     ensures value { result.1 ≡ answer_or none answer }
 {
     match answer {
-        Ok(value) => (0, value),
+        Ok(value) => (OK, value),
         Err(refusal) => (refusal.number(), none),
     }
 }

@@ -11,6 +11,9 @@ pub use answer::parts;
 use std::error::Error;
 use std::fmt;
 
+// The number of an answer that refuses nothing.
+pub const OK: u64 = 0;
+
 // A line of the table. What is refused is said in full where it is judged.
 #[derive(Clone, Copy, Debug, PartialEq, Eq)]
 pub enum Refusal {

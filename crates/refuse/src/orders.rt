@@ -13,10 +13,16 @@ fn all_within(d: u64, s: &[u8]) -> bool
 }
 
 // v occurs once.
+#[tactic(auto, using(crate::proofs::Counting::counting))]
 fn once(v: u64, s: &[u8]) -> bool
     ensures { result ≡ eqb (count v s.now) 1 }
 {
-    s.iter().filter(|x| u64::from(**x) == v).count() == 1
+    // By hand: the library's `filter` and `count` branch at each number, and a step of a walk then takes half as long again.
+    let mut n: usize = 0;
+    for x in s {
+        n += usize::from(u64::from(*x) == v);
+    }
+    n == 1
 }
 
 // Each of 1..d occurs once.

@@ -69,7 +69,7 @@ negative_zero m e z =
     sym (ap (λ n. n % modulus m) all ∙ mod_self (modulus m))
 
 -- The wrapped difference from m, which is 0 for 2^64.
-pub negative_some : (m e : ℕ) → m ≤ 2 ^ 63 → e ≢ 0 → e < modulus m → (m + (2 ^ 64 - e)) % 2 ^ 64 ≡ (modulus m - e) % modulus m
+pub negative_some : (m e : ℕ) → m < 2 ^ 64 → e ≢ 0 → e < modulus m → (m + (2 ^ 64 - e)) % 2 ^ 64 ≡ (modulus m - e) % modulus m
 negative_some zero e h n l =
     let M = modulus_zero zero refl in
     let is : (zero + (2 ^ 64 - e)) % 2 ^ 64 ≡ modulus zero - e = omega arith in

@@ -8,6 +8,8 @@ mod runs;
 mod start;
 mod words;
 
+pub use judging::run_refusal;
 pub use modular::Modulus;
 pub use runs::run_by_steps;
+pub use start::start_registers;
 pub use words::Registers;

@@ -15,16 +15,37 @@ pub fn character(x: u64) -> u8
 }
 
 impl Lines {
-    // A number with no leading zeros.
+    // A number with no leading zeros, digit by digit.
     #[tactic(auto, using(crate::proofs::DecimalDigits::digit_by_digit))]
-    pub(crate) fn decimal(&mut self, n: u64)
+    fn digits(&mut self, n: u64)
         requires { Room self.old (decimal n) }
         ensures { self.new ≡ self.old ++ decimal n }
     {
         if n >= 10 {
-            self.decimal(n / 10);
+            self.digits(n / 10);
         }
         self.byte(character(n % 10));
+    }
+
+    // A number with no leading zeros. Up to three digits, as many as a listing's numbers have, are appended at once.
+    #[tactic(auto, using(crate::proofs::DecimalDigits::at_once))]
+    pub(crate) fn decimal(&mut self, n: u64)
+        requires { Room self.old (decimal n) }
+        ensures { self.new ≡ self.old ++ decimal n }
+    {
+        if n < 10 {
+            self.byte(character(n));
+        } else if n < 100 {
+            self.bytes(&[character(n / 10), character(n % 10)]);
+        } else if n < 1000 {
+            self.bytes(&[
+                character(n / 100),
+                character(n / 10 % 10),
+                character(n % 10),
+            ]);
+        } else {
+            self.digits(n);
+        }
     }
 
     // A space and a number.

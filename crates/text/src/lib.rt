@@ -12,4 +12,3 @@ mod steps;
 
 pub use lines::{LONGEST_TEXT, Lines};
 pub use opening::refused_line;
-pub use plans::plan_lines;

@@ -1,5 +1,6 @@
 // Text as it grows, in an array that has room for the longest listing. The other files of this crate append its pieces.
-ghost use Rattle.std.specs.Prelude.{◌≡◌, ◌∷◌, ◌++◌, ◌≤◌, [], List, ℕ, take};
+ghost use Rattle.std.specs.Prelude.{◌≡◌, ◌∷◌, ◌++◌, ◌≤◌, [], List, ℕ, length, take};
+ghost use Rattle.ladder.specs.Numbers.{longest_text};
 ghost use Rattle.text.specs.Inner.{Room};
 
 use std::marker::Model;
@@ -24,7 +25,7 @@ impl Model for Lines {
 
 impl Lines {
     // No text yet.
-    pub(crate) fn new() -> Lines
+    pub fn new() -> Lines
         ensures { result ≡ [] }
     {
         Lines {
@@ -34,8 +35,10 @@ impl Lines {
     }
 
     // The text so far.
+    #[tactic(auto, unfolding(ladder::specs::Numbers::longest_text))]
     pub fn text(&self) -> &[u8]
-        ensures { result.now ≡ self.now }
+        ensures text { result.now ≡ self.now }
+        ensures fits { length result.now ≤ longest_text }
     {
         &self.bytes[..self.length]
     }

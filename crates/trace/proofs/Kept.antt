@@ -1,6 +1,6 @@
 -- Trace's promise is kept on refusal and on accepted input, whose walk can be traced.
 -- Assumes nothing.
-use Rattle.std.proofs.Common.{◌≡◌, ◌≤◌, ℕ, List, sym, ◌∙◌}
+use Rattle.std.proofs.Common.{◌≡◌, ◌≤◌, ◌-◌, ℕ, List, sym, ◌∙◌}
 use Rattle.ladder.specs.Matrix.{OrderOk}
 use Rattle.ladder.specs.Plan.{Plan, start_order}
 use Rattle.ladder.specs.Refusals.{trace_refusal}
@@ -36,12 +36,12 @@ module _ (p : Plan) (out : List ℕ) where
 
     module _ (w : Walk) (begun : w ≡ start_of p) where
       -- .. can be traced ..
-      pub traceable : CanTrace w p.bits p.l out
+      pub traceable : CanTrace w p.bits 0 p.l out
       unfolding start_order
       traceable = can_trace p asked.plan.plan begun asked.plan.bits asked.trace_long
 
       -- .. and its trace is the plan's.
-      pub kept_accepted : (r : Traced) (outAfter : List ℕ) → TraceLeft (walk_entries w p.bits 0 p.l) outAfter r.doublings r.additions
+      pub kept_accepted : (r : Traced) (outAfter : List ℕ) → TraceLeft (walk_entries w p.bits 0 (p.l - 0)) outAfter r.doublings r.additions
           → TracePromise p out 0 r outAfter
       unfolding start_order
       kept_accepted r outAfter left =

@@ -1,9 +1,9 @@
 -- The trace of a walk is the trace of its plan, and an accepted plan's walk can be traced.
 -- Assumes nothing.
-use Prim.Native.Nat.{ℕ, zero, suc, ◌+◌}
+use Prim.Native.Nat.{ℕ, zero, suc, ◌+◌, ◌-◌, ◌*◌}
 use mathlib.Core.Path.{◌≡◌, refl, sym, ap, ap₂, ◌∙◌}
 use mathlib.Core.List.{List, ◌++◌, append_assoc, append-nil}
-use native.Mathlib.Nat.{add-zero, zero-add, mul_assoc}
+use native.Mathlib.Nat.{add-zero, zero-add, mul_assoc, sub-zero}
 use native.Mathlib.Omega.{arith}
 use lib.IntN.{ℤ}
 use lib.ListN.{length}
@@ -71,18 +71,21 @@ module _ (p : Plan) (ok : Accepted p) where
   module _ {w : Walk} (starts : w ≡ walk_of p.d (start_order p) (start_signs p.d)) where
     -- With its buffers' lengths right, the whole trace can be written ..
     pub can_trace : {out : List ℕ} → length p.bits ≡ bits_length p.d p.l → length out ≡ trace_length p.d p.l
-        → CanTrace w p.bits p.l out
+        → CanTrace w p.bits 0 p.l out
     unfolding walk_of bits_length bytes_for trace_length
     can_trace b o = rw starts record {
       ready = ready_start p ok;
+      forward = omega arith;
       last = ok.l_high;
       bits = omega arith;
-      room = o ∙ mul_assoc p.l (p.d + 1) (p.d + 2);
+      room =
+          o ∙ mul_assoc p.l (p.d + 1) (p.d + 2)
+          ∙ ap (λ l. l * ((p.d + 1) * (p.d + 2))) (sym (sub-zero p.l));
     }
 
     -- .. and it is the plan's.
-    pub traced_in : {out : List ℕ} {m n : ℕ} → TraceLeft (walk_entries w p.bits 0 p.l) out m n
+    pub traced_in : {out : List ℕ} {m n : ℕ} → TraceLeft (walk_entries w p.bits 0 (p.l - 0)) out m n
         → (out ≡ trace_bytes (entries_in p)) × (m ≡ doublings (entries_in p)) × (n ≡ addition_count (entries_in p))
     traced_in t =
-        let e = ap (λ v. walk_entries v p.bits 0 p.l) starts ∙ walk_trace in
+        let e = ap₂ (λ v l. walk_entries v p.bits 0 l) starts (sub-zero p.l) ∙ walk_trace in
         (t.bytes ∙ ap trace_bytes e, t.doubled ∙ ap doublings e, t.added ∙ ap addition_count e)

@@ -1,6 +1,6 @@
 -- The trace of a walk, by orders and signs and with no matrix. `walk_entries_lem` of proofs/PlanTrace.antt says that it is a plan's trace.
 -- Assumes nothing.
-use Rattle.std.specs.Prelude.{ℕ, zero, suc, ◌+◌, ◌*◌, ◌≤◌, ◌≡◌, List, [], ◌++◌, length}
+use Rattle.std.specs.Prelude.{ℕ, zero, suc, ◌+◌, ◌-◌, ◌*◌, ◌≤◌, ◌≡◌, List, [], ◌++◌, length}
 use Rattle.ladder.specs.Matrix.{step_order, step_signs}
 use Rattle.ladder.specs.Numbers.{bits_at}
 use Rattle.ladder.specs.Trace.{Entry, trace_bytes, doublings, addition_count}
@@ -17,12 +17,13 @@ walk_entries w bytes s (suc n) =
     (walk_of w.d (step_order (order_of w) (bits_at w.d bytes s)) (step_signs (walk_signs w) (order_of w) (bits_at w.d bytes s)))
     bytes (suc s) n
 
--- What the trace of l steps asks: a walk that can be stepped, their bits, and a buffer of their entries' length.
-pub record CanTrace (w : Walk) (bytes : List ℕ) (l : ℕ) (out : List ℕ) : Type 0 where
+-- What the trace of steps s to e - 1 asks: a walk that can be stepped, their bits, and a buffer of their entries' length.
+pub record CanTrace (w : Walk) (bytes : List ℕ) (s e : ℕ) (out : List ℕ) : Type 0 where
   pub ready : Ready w
-  pub last : l ≤ 576
-  pub bits : l * w.d ≤ 8 * length bytes
-  pub room : length out ≡ l * ((w.d + 1) * (w.d + 2))
+  pub forward : s ≤ e
+  pub last : e ≤ 576
+  pub bits : e * w.d ≤ 8 * length bytes
+  pub room : length out ≡ (e - s) * ((w.d + 1) * (w.d + 2))
 
 -- What it leaves: the entries' bytes, and their counts.
 pub record TraceLeft (es : List Entry) (out : List ℕ) (m n : ℕ) : Type 0 where

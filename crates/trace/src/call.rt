@@ -26,5 +26,5 @@ pub fn trace(plan: &Plan, out: &mut [u8]) -> Result<Traced, Refusal>
 {
     trace_refusal(plan, out)?;
     let start = start_walk(plan.d, plan.start);
-    Ok(trace_steps(start, plan.bits, plan.l, out))
+    Ok(trace_steps(start, plan.bits, 0, plan.l, out))
 }

@@ -11,7 +11,7 @@ use Rattle.walk.specs.WalkState.{walk_state}
 use Rattle.walk.specs.Promise.{StepPromise}
 
 module _ (w : Walk) (bits : ℕ) where
-  -- What refuses leaves the owner's state ..
+  -- What refuses hands the state back ..
   pub kept_refused : (e : Refusal) → number e ≡ step_refusal (walk_state w) bits → StepPromise w bits (number e) w
   kept_refused e judged = record {
     refusal_is = judged;

@@ -1,3 +1,4 @@
 -- What the walk's contracts cite.
 pub mod WalkState
+pub mod Stepped
 pub mod Promise

@@ -7,3 +7,4 @@ mod state;
 mod step;
 
 pub use state::Walk;
+pub use step::Unstepped;

@@ -1,8 +1,24 @@
 // How what a request lends stands in a line: bytes and words in lower-case hexadecimal, a space before each.
+ghost use Rattle.std.specs.Prelude.{◌≡◌, ◌<◌, false};
+ghost use Rattle.std.specs.Fmt.{digit_glyph};
+
 use std::fmt::{self, Display, Formatter};
+use std::str;
 
 // More bytes than these are told by their count and two sums.
 const LONG: usize = 1000;
+
+// A digit as a character: 0 to 9, then a to f.
+fn glyph(digit: u8) -> u8
+    requires { digit < 16 }
+    ensures { result ≡ digit_glyph false digit }
+{
+    if digit < 10 {
+        b'0' + digit
+    } else {
+        b'a' + (digit - 10)
+    }
+}
 
 // Two digits each.
 #[derive(Clone, Copy)]
@@ -13,8 +29,15 @@ impl Display for Bytes<'_> {
         if self.0.len() > LONG {
             return write!(f, "{}", Sums::of(self.0));
         }
-        for byte in self.0 {
-            write!(f, " {byte:02x}")?;
+        // By hand, sixteen at a time: with `{byte:02x}` for each an answer takes a fifth longer.
+        for bytes in self.0.chunks(16) {
+            let mut text = [b' '; 48];
+            for (shown, byte) in text.chunks_exact_mut(3).zip(bytes) {
+                shown[1] = glyph(byte / 16);
+                shown[2] = glyph(byte % 16);
+            }
+            let length = 3 * bytes.len().min(16);
+            f.write_str(str::from_utf8(&text[..length]).map_err(|_| fmt::Error)?)?;
         }
         Ok(())
     }

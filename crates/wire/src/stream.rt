@@ -51,14 +51,23 @@ impl<R: Read> Input<R> {
         }
     }
 
-    // Once half of what is held is read, the rest moves to the front and more is read behind it. What stands there is cleared before, so
-    // that no digit is read twice.
+    // Reads on, once half of what is held is read.
+    #[inline]
     pub fn refill(&mut self) -> io::Result<()>
         ensures { Loses (R.remaining self.old.reader) (R.remaining self.new.reader) }
     {
         if self.at < HELD / 2 {
-            return Ok(());
+            Ok(())
+        } else {
+            self.read_on()
         }
+    }
+
+    // What is not read yet moves to the front, and more is read behind it. What stands there is cleared before, so that no digit is read twice.
+    #[cold]
+    fn read_on(&mut self) -> io::Result<()>
+        ensures { Loses (R.remaining self.old.reader) (R.remaining self.new.reader) }
+    {
         let kept = HELD - self.at;
         self.held.copy_within(self.at.., 0);
         self.held[kept..].fill(0);
@@ -88,6 +97,7 @@ impl<R: Read> Input<R> {
     }
 
     // The same, after refilling.
+    #[inline]
     fn next_number(&mut self) -> io::Result<Option<u64>>
         ensures { Loses (R.remaining self.old.reader) (R.remaining self.new.reader) }
     {

@@ -12,10 +12,10 @@ use Rattle.capi.proofs.Bodies.{trailer-within, body_within, body_begins, body_si
 use Rattle.capi.proofs.files.immarduzh_body.Goals as goal
 
 pub overflow_sub-offset : goal.overflow_sub-offset
-overflow_sub-offset c = trailer-within c.in-Ok.ensures c.body-size.ensures refl
+overflow_sub-offset c = omega (arith, trailer-within c.in-Ok.ensures c.body-size.ensures refl)
 
 pub overflow_sub-offset-in-Ok : goal.overflow_sub-offset-in-Ok
-overflow_sub-offset-in-Ok c = body_within c.in-Ok.ensures c.body-size.ensures refl
+overflow_sub-offset-in-Ok c = omega (arith, body_within c.in-Ok.ensures c.body-size.ensures refl)
 
 pub returns-in-Ok : goal.returns-in-Ok
 returns-in-Ok c =

@@ -4,4 +4,6 @@ use Rattle.capi.proofs.InPlace.{in_place}
 use Rattle.capi.proofs.walking.immarduzh_step.Goals as goal
 
 pub returns : goal.returns
-returns c = let parts = c.parts-refusal.ensures in in_place {next = c.parts-refusal.result.1} (rw (parts.number, parts.value) c.step.ensures)
+returns c =
+    let told = c.stepped-refusal.ensures in
+    in_place {next = c.stepped-refusal.result.1} (rw (told.number, told.walk) c.step.ensures)

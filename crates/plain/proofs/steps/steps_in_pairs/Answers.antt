@@ -1,6 +1,6 @@
 -- `plain::steps::steps_in_pairs` meets its contract. The loop's invariant is `PlainRunning`: the registers are those after the steps so far.
 -- Assumes nothing.
-use Rattle.std.proofs.Common.{◌+◌, ◌-◌, ◌*◌, ◌∙◌, arith}
+use Rattle.std.proofs.Common.{◌+◌, ◌*◌, ◌∙◌, arith}
 use Rattle.plain.proofs.Stepping.{running_start, bits_there, stepped, running_pair, running_last}
 use Rattle.plain.proofs.steps.steps_in_pairs.Goals as goal
 
@@ -21,10 +21,10 @@ loop-pair-preserved c =
       (stepped i.step _ _ c.plain_step.ensures).rows,
     )
 
-pub step_bits-requires-then-l-eq1 : goal.step_bits-requires-then-l-eq1
-step_bits-requires-then-l-eq1 c = bits_there c.requires.0 (c.args.l - 1) (omega arith)
+pub step_bits-requires-then-last-l : goal.step_bits-requires-then-last-l
+step_bits-requires-then-last-l c = bits_there c.requires.0 _ (omega arith)
 
-pub returns-then-l-eq1 : goal.returns-then-l-eq1
-returns-then-l-eq1 c S =
+pub returns-then-last-l : goal.returns-then-last-l
+returns-then-last-l c S =
     c.copy_from_slice.ensures.after
-    ∙ running_last c.loop-pair.invariant.0 (omega arith) c.step_bits-then-l-eq1.ensures c.plain_step-then-l-eq1.ensures S
+    ∙ running_last c.loop-pair.invariant.0 (omega arith) _ (omega arith) c.step_bits-then-last-l.ensures c.plain_step-then-last-l.ensures S

@@ -1,9 +1,7 @@
 -- `write_file` meets its contract: what the three copies and the cleared byte leave is the plan's file (`laid`).
 -- Assumes nothing.
-use Rattle.std.proofs.Common.{rules, ◌∙◌}
+use Rattle.std.proofs.Common.{rules, arith, ◌∙◌}
 use Rattle.planfile.proofs.Laid.{sizes, laid}
-use Rattle.std.proofs.Common.{arith}
-use Rattle.loose.specs.PlanOf.{plan_of}
 use Rattle.loose.specs.PlanOf.{plan_of}
 use Rattle.planfile.proofs.packing.write_file.Goals as goal
 
@@ -13,5 +11,5 @@ trailer_of-requires c =
 
 pub returns : goal.returns
 returns c =
-    laid (plan_of c.args.plan.now) c.args.file.now c.requires (search rules) c.copy_from_slice.ensures.after c.copy_from_slice-2.ensures.after
-    c.cleared.ensures (c.copy_from_slice-3.ensures.after ∙ c.trailer_of.ensures)
+    laid (plan_of c.args.plan.now) c.args.file.now c.requires (search rules) c.copy.ensures c.copy-2.ensures
+    c.cleared.ensures (c.copy_from_slice.ensures.after ∙ c.trailer_of.ensures)

@@ -5,5 +5,5 @@ use Rattle.walk.specs.WalkState.{walk_state}
 use Rattle.trace.proofs.Tracing.{Tracing}
 use Rattle.trace.proofs.steps.trace_steps.Given as goal
 
-abbrev pub invariant-loop-s : goal.invariant-loop-s
-invariant-loop-s l = Tracing (walk_state l.w) l.bits l.l l.out l.s (walk_state l.walk)
+abbrev pub invariant-loop-i : goal.invariant-loop-i
+invariant-loop-i l = Tracing (walk_state l.w) l.bits l.from l.to l.out l.i (walk_state l.walk)

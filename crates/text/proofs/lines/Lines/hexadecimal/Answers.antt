@@ -1,4 +1,4 @@
--- `hexadecimal` meets its contract. Rests on `hex_character`: the digit that the code takes is the character's.
+-- `hexadecimal` meets its contract. Rests on `hex_next`: the digit that the code takes is the character's.
 -- Assumes nothing.
 use native.Mathlib.Omega.{arith}
 use Rattle.text.proofs.HexDigits.{hex_within}

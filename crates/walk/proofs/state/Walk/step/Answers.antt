@@ -8,5 +8,5 @@ use Rattle.walk.proofs.state.Walk.step.Goals as goal
 
 pub advance-requires : goal.advance-requires
 advance-requires c =
-    let ok = (step_none (walk_state c.args.self) c.args.bits).0 (sym c.in_ok-step_refusal.ensures) in
+    let ok = (step_none (walk_state c.args.self) c.args.bits).0 (sym c.in-Ok.ensures) in
     ready_walk (walk_state c.args.self) ok.dimension.0 ok.dimension.1 ok.walk
