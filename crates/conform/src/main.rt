@@ -27,11 +27,13 @@ type Answer = Line<LARGE>;
 fn main(rt: HostRuntime) -> io::Result<()> {
     let mut input = Input::new(rt.stdin());
     let mut output = rt.stdout();
+    // One line for all answers, so that its room is cleared once.
+    let mut line = Answer::new();
     input.refill()?;
     let count = input.held_number().unwrap_or(0);
     for _ in 0..count {
         input.refill()?;
-        match request::answer(&mut input, &mut output) {
+        match request::answer(&mut input, &mut output, &mut line) {
             Ok(()) => {}
             Err(Stop::Cut) => return request::cut(&mut output),
             Err(Stop::Failed(e)) => return Err(e),

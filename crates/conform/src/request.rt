@@ -134,6 +134,7 @@ fn read_modulus<R: Read>(input: &mut Input<R>, has_modulus: bool) -> Option<u64>
 fn answer_held<R: Read, W: Write>(
     input: &mut Input<R>,
     output: &mut W,
+    line: &mut Answer,
     head: Head,
 ) -> Result<(), Stop>
     ensures read { Loses (R.remaining input.old.reader) (R.remaining input.new.reader) }
@@ -149,14 +150,17 @@ fn answer_held<R: Read, W: Write>(
     let mut held_words = [0u64; limit::WORDS];
     let words = first_mut(&mut held_words, lent.words);
     input.words(words).ok_or(Stop::Cut)?;
-    let mut line = Answer::new();
-    put_answer(head, modulus, start, bits, words, &mut line)?;
+    put_answer(head, modulus, start, bits, words, line)?;
     line.end(output)?;
     Ok(())
 }
 
-// Answers the next request.
-pub fn answer<R: Read, W: Write>(input: &mut Input<R>, output: &mut W) -> Result<(), Stop>
+// Answers the next request, by a line that is empty before and after.
+pub fn answer<R: Read, W: Write>(
+    input: &mut Input<R>,
+    output: &mut W,
+    line: &mut Answer,
+) -> Result<(), Stop>
     ensures read { Loses (R.remaining input.old.reader) (R.remaining input.new.reader) }
     ensures written { Gains (W.contents output.old) (W.contents output.new) }
 {
@@ -164,7 +168,7 @@ pub fn answer<R: Read, W: Write>(input: &mut Input<R>, output: &mut W) -> Result
     if limit::passed(head.call, head.lent) {
         return limit::refuse(input, output, head.lent);
     }
-    answer_held(input, output, head)
+    answer_held(input, output, line, head)
 }
 
 // The line of a request in which the input ends.

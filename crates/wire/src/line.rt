@@ -31,13 +31,15 @@ impl<const N: usize> Line<N> {
         self.length = end;
     }
 
-    // Ends the line and writes it, or its first part where an error comes.
+    // Ends the line and writes it, or its first part where an error comes. Then the line is empty again.
     pub fn end<W: Write>(&mut self, output: &mut W) -> io::Result<()>
         ensures { Gains (W.contents output.old) (W.contents output.new) }
     {
         self.put(b"\n");
         let bytes = &self.bytes[..];
-        write_full(output, &bytes[..self.length])
+        write_full(output, &bytes[..self.length])?;
+        self.length = 0;
+        Ok(())
     }
 }
 
